@@ -1,0 +1,6 @@
+pub mod Pairs
+pub mod Magnitudes
+pub mod FloorLaws
+pub mod Signed
+pub mod FractionLaws
+pub mod Distance

@@ -1,0 +1,4 @@
+pub mod Parts
+pub mod Floor
+pub mod Clamp
+pub mod Fraction
