@@ -1,12 +1,19 @@
--- What the distance of two fractions means: |x − y| ≤ k/100, in ℤ and with nothing rounded. Nothing rests on this file. Assumes nothing.
-use mathlib.Core.Path.{_≡_}
+-- What fractions and their distance mean: a quotient of whole numbers; |x − y| ≤ k/100, in ℤ and with nothing rounded. Nothing rests on this file. Assumes nothing.
+use mathlib.Core.Path.{_≡_, ap}
 use mathlib.Core.Logic.{_↔_}
 use Prim.Native.Nat.{ℕ, _+_, _*_, _≤_, _<_}
 use native.Mathlib.Omega.{arith}
-use lib.IntN.{ℤ, pos, negsuc, natAbs, _-ℤ_, _*ℤ_}
+use lib.IntN.{ℤ, pos, negsuc, natAbs, subℕ, _-ℤ_, _*ℤ_}
 use Rattle.whole.specs.Parts.{up, down}
-use Rattle.whole.specs.Fraction.{ratio, Within}
-use Rattle.whole.proofs.Pairs.{up-times, down-times, -ℤ-up}
+use Rattle.whole.specs.Fraction.{Fraction, ratio, Within, Same}
+use Rattle.whole.proofs.Pairs.{subₚ, differs, up-times, down-times, -ℤ-up}
+
+-- every fraction is a quotient of a whole number by a natural above 0
+pub is-quotient : (x : Fraction) → Same x (ratio (subℕ (x .plus) (x .minus)) (x .under) (x .proper))
+is-quotient x = let e : x .plus + down z ≡ up z + x .minus = differs (subₚ (x .plus) (x .minus)) in omega (arith, ap (λ n. n * x .under) e)
+  where
+    z : ℤ
+    z = subℕ (x .plus) (x .minus)
 
 -- | z/d − y/e | ≤ k/100, multiplied by 100 d e
 pub within-ℤ : (z y : ℤ) (d e : ℕ) (hd : 0 < d) (he : 0 < e) (k : ℕ) → Within (ratio z d hd) (ratio y e he) k 100 ↔ 100 * natAbs (pos e *ℤ z -ℤ pos d *ℤ y) ≤ k * (d * e)

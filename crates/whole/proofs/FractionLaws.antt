@@ -56,22 +56,22 @@ pub atmost-wider : (x y : Fraction) (a b c d : ℕ) → 0 < b → a * d ≤ c * 
 atmost-wider x y a b c d p h k = wider-core (x .plus * y .under + y .minus * x .under) (y .plus * x .under + x .minus * y .under) (x .under * y .under) a b c d p h k
 
 -- u and v are the two fractions, clamped to 0 and M: v is at its top; or x is at most 0; or neither
-stop-top : (M xu yu u v a b : ℕ) → u ≤ M * xu → M * yu ≤ v → b * (u * yu + 0 * xu) ≤ b * (v * xu + 0 * yu) + a * (xu * yu)
-stop-top M xu yu u v a b h k = omega (arith, mul-le-mul-left (b * yu) h, mul-le-mul-left (b * xu) k)
+clamp-top : (M xu yu u v a b : ℕ) → u ≤ M * xu → M * yu ≤ v → b * (u * yu + 0 * xu) ≤ b * (v * xu + 0 * yu) + a * (xu * yu)
+clamp-top M xu yu u v a b h k = omega (arith, mul-le-mul-left (b * yu) h, mul-le-mul-left (b * xu) k)
 
-stop-zero : (xu yu u v a b : ℕ) → u ≡ 0 → b * (u * yu + 0 * xu) ≤ b * (v * xu + 0 * yu) + a * (xu * yu)
-stop-zero xu yu u v a b e = omega (arith, ap (λ n. n * (b * yu)) e)
+clamp-zero : (xu yu u v a b : ℕ) → u ≡ 0 → b * (u * yu + 0 * xu) ≤ b * (v * xu + 0 * yu) + a * (xu * yu)
+clamp-zero xu yu u v a b e = omega (arith, ap (λ n. n * (b * yu)) e)
 
-stop-mid : (xp xn xu yp yn yu u v a b : ℕ) → b * (xp * yu + yn * xu) ≤ b * (yp * xu + xn * yu) + a * (xu * yu) → u + xn ≤ xp → yp ≤ v + yn → b * (u * yu + 0 * xu) ≤ b * (v * xu + 0 * yu) + a * (xu * yu)
-stop-mid xp xn xu yp yn yu u v a b h k l = omega (arith, mul-le-mul-left (b * yu) k, mul-le-mul-left (b * xu) l)
+clamp-mid : (xp xn xu yp yn yu u v a b : ℕ) → b * (xp * yu + yn * xu) ≤ b * (yp * xu + xn * yu) + a * (xu * yu) → u + xn ≤ xp → yp ≤ v + yn → b * (u * yu + 0 * xu) ≤ b * (v * xu + 0 * yu) + a * (xu * yu)
+clamp-mid xp xn xu yp yn yu u v a b h k l = omega (arith, mul-le-mul-left (b * yu) k, mul-le-mul-left (b * xu) l)
 
-pub atmost-clampᶠ : (x y : Fraction) (a b : ℕ) → AtMost x y a b → AtMost (clampᶠ x) (clampᶠ y) a b
-atmost-clampᶠ x y a b h = go (decLe (65520 * y .under) (y .plus - y .minus)) (decLe (x .plus) (x .minus))
+pub atmost-clamp : (x y : Fraction) (a b : ℕ) → AtMost x y a b → AtMost (clampᶠ x) (clampᶠ y) a b
+atmost-clamp x y a b h = go (decLe (65520 * y .under) (y .plus - y .minus)) (decLe (x .plus) (x .minus))
   where
     go : Dec (65520 * y .under ≤ y .plus - y .minus) → Dec (x .plus ≤ x .minus) → AtMost (clampᶠ x) (clampᶠ y) a b
-    go (yes t) d = stop-top 65520 (x .under) (y .under) _ _ a b (omega arith) (omega arith)
-    go (no f) (yes z) = stop-zero (x .under) (y .under) _ _ a b (omega arith)
-    go (no f) (no g) = stop-mid (x .plus) (x .minus) (x .under) (y .plus) (y .minus) (y .under) _ _ a b h (omega arith) (omega arith)
+    go (yes t) d = clamp-top 65520 (x .under) (y .under) _ _ a b (omega arith) (omega arith)
+    go (no f) (yes z) = clamp-zero (x .under) (y .under) _ _ a b (omega arith)
+    go (no f) (no g) = clamp-mid (x .plus) (x .minus) (x .under) (y .plus) (y .minus) (y .under) _ _ a b h (omega arith) (omega arith)
 
 -- ---- both sides
 
@@ -93,8 +93,8 @@ within-sub {x} {y} {u} {v} h k = within-add {x = x} {y = y} {u = negᶠ u} {v = 
 pub within-part : {x y : Fraction} (n : ℕ) (p : 0 < n) {a b : ℕ} → Within x y (n * a) b → Within (dividedBy x n p) (dividedBy y n p) a b
 within-part {x} {y} n p {a} {b} h = record { low = atmost-part x y n p a b (h .low); high = atmost-part y x n p a b (h .high) }
 
-pub within-clampᶠ : {x y : Fraction} {a b : ℕ} → Within x y a b → Within (clampᶠ x) (clampᶠ y) a b
-within-clampᶠ {x} {y} {a} {b} h = record { low = atmost-clampᶠ x y a b (h .low); high = atmost-clampᶠ y x a b (h .high) }
+pub within-clamp : {x y : Fraction} {a b : ℕ} → Within x y a b → Within (clampᶠ x) (clampᶠ y) a b
+within-clamp {x} {y} {a} {b} h = record { low = atmost-clamp x y a b (h .low); high = atmost-clamp y x a b (h .high) }
 
 pub within-same : {x y : Fraction} (b : ℕ) → Same x y → Within x y 0 b
 within-same {x} {y} b e = record { low = atmost-same x y b e; high = atmost-same y x b (omega arith) }

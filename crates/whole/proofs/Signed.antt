@@ -10,13 +10,13 @@
 use mathlib.Core.Path.{_≡_, refl, sym, _∙_, ap, ap₂, subst}
 use mathlib.Core.Bool.{Bool, true, false, not, _&&_}
 use Prim.Native.Nat.{ℕ, zero, suc, _+_, _*_, _-_, _/_, _^_, _<_, _≤_}
-use native.Mathlib.Nat.{le-trans, lt-of-le-of-lt, le-refl, zero-add}
+use native.Mathlib.Nat.{le-trans, lt-of-le-of-lt, le-refl, le-of-eq, zero-add}
 use native.Mathlib.Omega.{arith}
 use borrow.Author.Tests.{ltb-true, leb-false}
-use lib.Dec.{T, ltb, ltb→lt, lt→ltb}
+use lib.Dec.{T, ltb, ltb→lt, lt→ltb, lit<}
 use lib.Signed.{mag, mag-shr, shrZ, ltZ, leZ, nonNeg, _≤ℤ_, _<ℤ_, ltZ-no, pos-natAbs, yes-nonNeg}
 use lib.IntN.{ℤ, pos, negsuc, negℤ, natAbs, _+ℤ_, _-ℤ_, _*ℤ_}
-use mir.Syntax.{Width}
+use mir.Syntax.{Width, w32, w64}
 use mir.Val.{Fits, SFits, hbits, ofZ, toZ}
 use mir.ValLaws.{toZ-pos, toZ-ofZ}
 use Rattle.whole.proofs.Pairs.{sub-pos, sub-neg}
@@ -237,3 +237,11 @@ pub shifted : {w : Width} (e : E w) (d : ℕ) → T (ok e) → toZ w (ofZ w (shr
 shifted {w} e d t =
     back w (shrZ (toZ w (bits e)) d) (ap (λ u. shrZ u d) (value e t) ∙ shr-floor (val e) d)
     (record { sfits = lt-of-le-of-lt (subst (λ u. mag u ≤ mag (val e)) (shr-floor (val e) d) (mag-shr (val e) d)) (fits e t .sfits) })
+
+-- what the cast of any i32 asks
+pub wide-cast : (z : ℤ) → SFits w32 z → SFits w64 (toZ w32 (ofZ w32 z))
+wide-cast z f = rw (toZ-ofZ w32 z f) (fits-within z (abs-of-fits z f) (lit< tt))
+
+-- and what the machine reads of an expression is within its bound
+pub bounded : {w : Width} (e : E w) → T (ok e) → natAbs (toZ w (bits e)) ≤ bound e
+bounded e t = le-trans (le-of-eq (ap natAbs (value e t))) (within e)

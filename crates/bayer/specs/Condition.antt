@@ -1,0 +1,16 @@
+-- Conditions of refusals. Assumes nothing.
+use Prim.Native.Nat.{ℕ, _+_, _*_}
+use mathlib.Core.Bool.{Bool, _||_}
+use lib.Dec.{ltb}
+
+-- 1, for a width or a height: outside 8 to 4096
+abbrev pub outsideSizes : ℕ → Bool
+outsideSizes n = ltb n 8 || ltb 4096 n
+
+-- 2: a layout above 3
+abbrev pub unknown : (layout : ℕ) → Bool
+unknown layout = ltb 3 layout
+
+-- 7: a plane of this length lacks row i
+abbrev pub lacksRow : (length w i : ℕ) → Bool
+lacksRow length w i = ltb length ((i + 1) * w)

@@ -1,0 +1,121 @@
+-- After any list of calls, each covered row holds the rule's samples, and every other row is as before. For any rule. Assumes nothing.
+use mathlib.Core.Path.{_≡_, refl, _∙_, ap}
+use mathlib.Core.Logic.{_⊎_, inl, inr, ⊎-elim}
+use mathlib.Core.List.{List, [], _∷_, _++_}
+use Prim.Native.Nat.{ℕ, zero, suc, _+_, _*_, _-_, _≤_, _<_, min}
+use native.Mathlib.Nat.{mul-le-mul-right}
+use native.Mathlib.Decide.{decLe, decLt}
+use native.Mathlib.Omega.{arith}
+use lib.ListN.{length, getD, take, drop, length-append, length-take, length-drop, take-append-drop, List·getD-append}
+use lib.Seq.{getD-append-add, getD-take, getD-drop, length-take-le, drop-drop}
+use Rattle.bayer.specs.declared.colour.Colour.{Colour}
+use Rattle.calls.specs.Calls.{Planes, stretch, put, Call, accepted, refused, Rows, Step, Runs, Covers, Covered, After}
+
+dec-covers : (c : Call) (i : ℕ) → Dec (Covers c i)
+dec-covers (accepted a n) i = go (decLe a i) (decLt i (a + n))
+  where
+    go : Dec (a ≤ i) → Dec (i < a + n) → Dec (Covers (accepted a n) i)
+    go (yes h) (yes k) = yes (h, k)
+    go (yes h) (no k) = no (λ x. k (x .1))
+    go (no h) d = no (λ x. h (x .0))
+dec-covers (refused from size) i = no (λ x. x)
+
+dec-covered : (l : List Call) (i : ℕ) → Dec (Covered l i)
+dec-covered [] i = no (λ x. x)
+dec-covered (c ∷ l) i = go (dec-covers c i) (dec-covered l i)
+  where
+    go : Dec (Covers c i) → Dec (Covered l i) → Dec (Covered (c ∷ l) i)
+    go (yes h) d = yes (inl h)
+    go (no h) (yes k) = yes (inr k)
+    go (no h) (no k) = no (⊎-elim h k)
+
+-- ---- a list with a stretch replaced
+
+put-stretch : (s size : ℕ) (l : List ℕ) → s + size ≤ length l → put s (stretch s size l) l ≡ l
+put-stretch s size l h = let e : length (take size (drop s l)) ≡ size = length-take-le size (drop s l) (simp length-drop (omega arith)) in rw e (rw (← drop-drop size s l, take-append-drop size (drop s l), take-append-drop s l))
+
+length-put : (s : ℕ) (new l : List ℕ) → s + length new ≤ length l → length (put s new l) ≡ length l
+length-put s new l h = simp (length-append, length-take, length-drop) (omega arith)
+
+put-before : (s : ℕ) (new l : List ℕ) (x : ℕ) → s + length new ≤ length l → x < s → getD (put s new l) x 0 ≡ getD l x 0
+put-before s new l x h k = List·getD-append (take s l) _ 0 x (simp length-take (omega arith)) ∙ getD-take s l x 0 k
+
+put-in : (s : ℕ) (new l : List ℕ) (x : ℕ) → s + length new ≤ length l → x < length new → getD (put s new l) (s + x) 0 ≡ getD new x 0
+put-in s new l x h k = let e : length (take s l) ≡ s = length-take-le s l (omega arith) in (rw e at (getD-append-add (take s l) (new ++ drop (s + length new) l) x 0)) ∙ List·getD-append new _ 0 x k
+
+put-after : (s : ℕ) (new l : List ℕ) (x : ℕ) → s + length new ≤ length l → getD (put s new l) (s + (length new + x)) 0 ≡ getD l (s + (length new + x)) 0
+put-after s new l x h =
+    let e : length (take s l) ≡ s = length-take-le s l (omega arith) in
+    let f : s + length new + x ≡ s + (length new + x) = omega arith in
+    (rw e at (getD-append-add (take s l) (new ++ drop (s + length new) l) (length new + x) 0)) ∙ getD-append-add new _ x 0 ∙ getD-drop (s + length new) l x 0 ∙ ap (λ n. getD l n 0) f
+
+-- ---- one call, on one plane
+
+module _ (W H : ℕ) (rule : Colour → ℕ → ℕ → ℕ) where
+  fits : (a n : ℕ) (new l : List ℕ) → a + n ≤ H → length l ≡ W * H → length new ≡ n * W → a * W + length new ≤ length l
+  fits a n new l h e f = omega (arith, mul-le-mul-right W h)
+
+  step-length : (c : Call) (p q : Planes) → Step W H rule c p q → ((k : Colour) → length (p k) ≡ W * H) → (k : Colour) → length (q k) ≡ W * H
+  step-length (accepted a n) p q h e k = let r = h .1 k in ap length (r .2) ∙ length-put (a * W) (r .0) (p k) (fits a n (r .0) (p k) (h .0) (e k) (r .1 .size)) ∙ e k
+  step-length (refused from size) p q h e k = ap length (h k .1 ∙ put-stretch (from k) (size k) (p k) (h k .0)) ∙ e k
+
+  step-covers : (c : Call) (p q : Planes) → Step W H rule c p q → ((k : Colour) → length (p k) ≡ W * H) → (k : Colour) (i j : ℕ) → Covers c i → j < W → getD (q k) (i * W + j) 0 ≡ rule k i j
+  step-covers (accepted a n) p q h e k i j v hj = ap (λ l. getD l (i * W + j) 0) (h .1 k .2) ∙ there ∙ h .1 k .1 .each (i - a) j u hj ∙ ap (λ m. rule k m j) x
+    where
+      new : List ℕ
+      new = h .1 k .0
+
+      x : a + (i - a) ≡ i
+      x = omega (arith, v .0)
+
+      u : suc (i - a) ≤ n
+      u = omega (arith, v .0, v .1)
+
+      at : i * W + j ≡ a * W + ((i - a) * W + j)
+      at = omega (arith, ap (λ n. n * W) x)
+
+      there : getD (put (a * W) new (p k)) (i * W + j) 0 ≡ getD new ((i - a) * W + j) 0
+      there = rw at (put-in (a * W) new (p k) ((i - a) * W + j) (fits a n new (p k) (h .0) (e k) (h .1 k .1 .size)) (omega (arith, mul-le-mul-right W u, h .1 k .1 .size)))
+  step-covers (refused from size) p q h e k i j v hj = absurd v
+
+  step-others : (c : Call) (p q : Planes) → Step W H rule c p q → ((k : Colour) → length (p k) ≡ W * H) → (k : Colour) (i j : ℕ) → ¬ Covers c i → j < W → getD (q k) (i * W + j) 0 ≡ getD (p k) (i * W + j) 0
+  step-others (accepted a n) p q h e k i j v hj = ap (λ l. getD l (i * W + j) 0) (h .1 k .2) ∙ go (decLt i a)
+    where
+      new : List ℕ
+      new = h .1 k .0
+
+      f : a * W + length new ≤ length (p k)
+      f = fits a n new (p k) (h .0) (e k) (h .1 k .1 .size)
+
+      go : Dec (i < a) → getD (put (a * W) new (p k)) (i * W + j) 0 ≡ getD (p k) (i * W + j) 0
+      go (yes t) = put-before (a * W) new (p k) (i * W + j) f (omega (arith, mul-le-mul-right W t))
+      go (no t) =
+          let u : a + n ≤ i = by-cases (decLt i (a + n)) in
+          let y : a * W + (length new + (i * W + j - (a * W + length new))) ≡ i * W + j = omega (arith, mul-le-mul-right W u, h .1 k .1 .size) in
+          rw y at (put-after (a * W) new (p k) (i * W + j - (a * W + length new)) f)
+        where
+          by-cases : Dec (i < a + n) → a + n ≤ i
+          by-cases (yes w) = absurd (v (omega arith, w))
+          by-cases (no w) = omega arith
+  step-others (refused from size) p q h e k i j v hj = ap (λ l. getD l (i * W + j) 0) (h k .1 ∙ put-stretch (from k) (size k) (p k) (h k .0))
+
+  -- ---- the list
+
+  pub after-calls : (l : List Call) (p q : Planes) → ((k : Colour) → length (p k) ≡ W * H) → Runs W H rule l p q → After W H rule l p q
+  after-calls [] p q e h = record { lengths = λ k. ap length (h k) ∙ e k; covered = λ k i j v hj. absurd v; others = λ k i j v hj. ap (λ s. getD s (i * W + j) 0) (h k) }
+  after-calls (c ∷ l) p q e h = after (after-calls l (h .0) q (step-length c p (h .0) (h .1) e) (h .2))
+    where
+      m : Planes
+      m = h .0
+
+      after : After W H rule l m q → After W H rule (c ∷ l) p q
+      after r = record {
+        lengths = r .lengths;
+        covered = λ k i j v hj. by-last k i j v hj (dec-covered l i);
+        others = λ k i j v hj. r .others k i j (λ x. v (inr x)) hj ∙ step-others c p m (h .1) e k i j (λ x. v (inl x)) hj;
+      }
+        where
+          by-last : (k : Colour) (i j : ℕ) → Covered (c ∷ l) i → j < W → Dec (Covered l i) → getD (q k) (i * W + j) 0 ≡ rule k i j
+          by-last k i j v hj (yes x) = r .covered k i j x hj
+          by-last k i j (inl v) hj (no x) = r .others k i j x hj ∙ step-covers c p m (h .1) e k i j v hj
+          by-last k i j (inr v) hj (no x) = absurd (x v)

@@ -1,0 +1,86 @@
+-- A frame's row: what it delivers depends on the rows that positions i − 7 to i + 7 read, and a strip's piece has them all. Assumes nothing.
+use mathlib.Core.Path.{_≡_, refl, sym, _∙_, ap, subst}
+use mathlib.Core.List.{List}
+use Prim.Native.Nat.{ℕ, zero, suc, _+_, _*_, _-_, _≤_, _<_, min}
+use native.Mathlib.Nat.{mul-le-mul-right}
+use native.Mathlib.Omega.{arith}
+use lib.Dec.{lit≤}
+use lib.IntN.{ℤ, pos, negsuc, natAbs, subℕ, _+ℤ_, _-ℤ_}
+use lib.ListN.{getD, take, drop}
+use Rattle.whole.specs.Parts.{up, down}
+use Rattle.whole.specs.Fraction.{Fraction}
+use Rattle.whole.proofs.Pairs.{sub-pos}
+use Rattle.bayer.specs.declared.colour.Colour.{Colour}
+use Rattle.bayer.specs.declared.frame.Frame.{Frame}
+use Rattle.bayer.specs.Mirror.{mirror}
+use Rattle.bayer.specs.Piece.{pieceStart, pieceEnd, pieceOf}
+use Rattle.bayer.specs.View.{rowOf}
+use Rattle.bayer.proofs.MirrorLaws.{mirror-is}
+use Rattle.bayer.proofs.PieceLaws.{piece-row}
+use Rattle.gbtf.specs.Direction.{total}
+use Rattle.gbtf.specs.Mosaic.{continued}
+use Rattle.gbtf.proofs.GreenLocal.{Near, wider, greenAt-same, exactGreenAt-same}
+use Rattle.demosaic.specs.Sample.{sample}
+use Rattle.demosaic.specs.Exact.{exactSample}
+use Rattle.demosaic.proofs.SampleLocal.{sampleFrom-same, exactFrom-same}
+
+-- the mirrors read a row of the frame itself, and beside it, at most one row away
+module _ (H i : ℕ) (hH : 2 ≤ H) (hi : i < H) where
+  near-one : (r : ℤ) → up r ≤ i + 1 → i ≤ up r + 1 → down r ≤ 1 - i → Near 1 (pos i) (pos (mirror H r))
+  near-one (pos p) a b c = rw (mirror-is H (pos p) (omega arith)) (record { above = omega arith; below = omega arith })
+  near-one (negsuc k) a b c = rw (mirror-is H (negsuc k) (omega arith)) (record { above = omega arith; below = omega arith })
+
+  above : Near 1 (pos i) (pos (mirror H (pos i -ℤ pos 1)))
+  above = by-row i refl
+    where
+      by-row : (n : ℕ) → n ≡ i → Near 1 (pos i) (pos (mirror H (pos n -ℤ pos 1)))
+      by-row zero e = near-one (negsuc 0) (omega arith) (omega arith) (omega arith)
+      by-row (suc n) e = rw (sub-pos (suc n) 1 n (omega arith)) (near-one (pos n) (omega arith) (omega arith) (omega arith))
+
+  level : Near 1 (pos i) (pos (mirror H (pos i)))
+  level = near-one (pos i) (omega arith) (omega arith) (omega arith)
+
+  below : Near 1 (pos i) (pos (mirror H (pos i +ℤ pos 1)))
+  below = near-one (pos (i + 1)) (omega arith) (omega arith) (omega arith)
+
+-- rows from `first` on in xs, and from `other` on in ys
+module _ (ws : List ℕ) (f : Frame) (first other : ℕ) (xs ys : List ℕ) (i : ℕ) (hH : 2 ≤ f .height) (hi : i < f .height)
+    (agree : (r : ℤ) → Near 7 (pos i) r → rowOf (f .width) (mirror (f .height) r - first) xs ≡ rowOf (f .width) (mirror (f .height) r - other) ys) where
+  same-row : (r : ℤ) → Near 7 (pos i) r → (continued f first xs) .reading r ≡ (continued f other ys) .reading r
+  same-row r h = ap (λ l j. getD l (mirror (f .width) j) 0) (agree r h)
+
+  here : Near 1 (pos i) (pos i)
+  here = record { above = omega arith; below = omega arith }
+
+  abbrev H : ℕ
+  H = f .height
+
+  read-same : (r : ℤ) → Near 1 (pos i) r → (j : ℤ) → (continued f first xs) .reading r j ≡ (continued f other ys) .reading r j
+  read-same r h j = ap (λ x. x j) (same-row r (wider 7 r h (lit≤ tt)))
+
+  pub sample-local : (K : ℕ) (k : Colour) (j : ℕ) → sample K ws f first xs k i j ≡ sample K ws f other ys k i j
+  unfolding sample
+  sample-local K k j =
+      sampleFrom-same f _ _ _ (pos i) read-same here (above H i hH hi) (level H i hH hi) (below H i hH hi) _ _ (λ r h j. greenAt-same _ _ _ (pos i) same-row ws r h j K) k (pos j)
+
+  pub exactSample-local : (hT : 0 < total ws) (k : Colour) (j : ℕ) → exactSample ws hT f first xs k i j ≡ exactSample ws hT f other ys k i j
+  unfolding exactSample
+  exactSample-local hT k j =
+      exactFrom-same f _ _ _ (pos i) read-same here (above H i hH hi) (level H i hH hi) (below H i hH hi) _ _ (λ r h j. exactGreenAt-same _ _ _ (pos i) same-row ws r h j hT) k (pos j)
+
+-- a strip of n rows from row a, and one of its rows
+module _ (f : Frame) (a n i : ℕ) (hH : 8 ≤ f .height) (hn : a + n ≤ f .height) (low : a ≤ i) (high : i < a + n) where
+  -- the piece has every row that is read for row i
+  in-piece : (r : ℤ) → Near 7 (pos i) r → (pieceStart a ≤ mirror (f .height) r) × (mirror (f .height) r < pieceEnd (f .height) a n)
+  in-piece (pos p) h = rw (mirror-is (f .height) (pos p) (omega arith)) (omega arith)
+  in-piece (negsuc k) h = rw (mirror-is (f .height) (negsuc k) (omega arith)) (omega arith)
+
+  piece-agrees : (frame : List ℕ) (r : ℤ) → Near 7 (pos i) r → rowOf (f .width) (mirror (f .height) r - pieceStart a) (pieceOf (f .width) (f .height) a n frame) ≡ rowOf (f .width) (mirror (f .height) r - 0) frame
+  piece-agrees frame r h = piece-row (f .width) (f .height) a n (mirror (f .height) r) frame (in-piece r h .0) (in-piece r h .1) ∙ ap (λ x. rowOf (f .width) x frame) (let e : mirror (f .height) r ≡ mirror (f .height) r - 0 = omega arith in e)
+
+  -- the samples that the piece gives are the whole frame's
+  pub piece-sample : (K : ℕ) (ws : List ℕ) (frame : List ℕ) (k : Colour) (j : ℕ) → sample K ws f (pieceStart a) (pieceOf (f .width) (f .height) a n frame) k i j ≡ sample K ws f 0 frame k i j
+  piece-sample K ws frame k j = sample-local ws f (pieceStart a) 0 _ _ i (omega arith) (omega arith) (piece-agrees frame) K k j
+
+  pub piece-exactSample : (ws : List ℕ) (hT : 0 < total ws) (frame : List ℕ) (k : Colour) (j : ℕ) → exactSample ws hT f (pieceStart a) (pieceOf (f .width) (f .height) a n frame) k i j ≡ exactSample ws hT f 0 frame k i j
+  piece-exactSample ws hT frame k j = exactSample-local ws f (pieceStart a) 0 _ _ i (omega arith) (omega arith) (piece-agrees frame) hT k j

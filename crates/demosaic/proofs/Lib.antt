@@ -1,0 +1,7 @@
+pub mod FillLaws
+pub mod FillError
+pub mod SampleError
+pub mod SampleLocal
+pub mod FrameLocal
+pub mod SampleInside
+pub mod NeighbourColour

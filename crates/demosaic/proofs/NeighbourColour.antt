@@ -1,0 +1,89 @@
+-- The neighbours from which `otherFrom` fills red or blue have that colour. Assumes nothing.
+use mathlib.Core.Path.{_≡_, refl, sym, _∙_}
+use mathlib.Core.List.{List}
+use mathlib.Core.Bool.{true, false, cond}
+use Prim.Native.Nat.{ℕ, suc, _+_, _-_, _%_, _≤_, _<_}
+use native.Mathlib.Nat.{mod-mod}
+use native.Mathlib.Omega.{arith}
+use lib.IntN.{ℤ, pos, natAbs, _+ℤ_, _-ℤ_}
+use Rattle.whole.proofs.Pairs.{sub-ind}
+use Rattle.bayer.specs.declared.colour.Colour.{Colour}
+use Rattle.bayer.specs.declared.colour.Colour.the-variants.{Red, Green, Blue}
+use Rattle.bayer.specs.declared.frame.Frame.{Frame}
+use Rattle.bayer.specs.Colour.{colours, colourAt, same}
+use Rattle.bayer.specs.Mirror.{mirror}
+use Rattle.bayer.proofs.MirrorLaws.{Reflected, mirror-inside, mirror-parity}
+use Rattle.bayer.proofs.ColourLaws.{parity-colour, table, agree}
+use Rattle.gbtf.specs.Mosaic.{Mosaic, continued}
+use Rattle.gbtf.specs.GreenAt.{isGreen}
+use Rattle.demosaic.specs.Sample.{Pixel, diagonal, inRow, inColumn}
+use Rattle.demosaic.proofs.FillError.{Every}
+
+-- along an axis: what is read just before and just after a position has the other parity
+module _ (size p : ℕ) (h : 2 ≤ size) (k : p < size) where
+  abbrev Other : ℤ → Type 0
+  Other z = mirror size z % 2 ≡ (mirror size (pos p) % 2 + 1) % 2
+
+  other : (z : ℤ) → Reflected size z → natAbs z % 2 ≡ (p % 2 + 1) % 2 → Other z
+  other z r e = rw (mirror-inside size p k) (mirror-parity size z r ∙ e)
+
+  before : Other (pos p -ℤ pos 1)
+  before = sub-ind Other p 1 (λ l. other _ (omega arith) (omega arith)) (λ l. other _ (omega arith) (omega arith))
+
+  after : Other (pos p +ℤ pos 1)
+  after = other _ (omega arith) (omega arith)
+
+-- from the colours of a cell and of those right of it, below it and across: the colour of the cells that k is filled from (at a cell of colour k, its own)
+abbrev source : (k here right below across : Colour) → Colour
+source k here right below across = cond (same here Green) (cond (same right k) right below) (cond (same here k) here across)
+
+abbrev sourceAt : (k : Colour) (layout i j : ℕ) → Colour
+sourceAt k l i j = source k (colourAt l i j) (colourAt l i (j + 1)) (colourAt l (i + 1) j) (colourAt l (i + 1) (j + 1))
+
+-- a rule's colours in a layout
+abbrev block : (ℕ → ℕ → ℕ → Colour) → (layout : ℕ) → List (List Colour)
+block c l = table (λ i. table (c l i) 2) 2
+
+-- one test of all layouts, for red and for blue
+test : (k : Colour) → (k ≡ Green → ⊥) → table (block (sourceAt k)) 4 ≡ table (block (λ l i j. k)) 4
+unfolding colours colourAt
+test Red n = refl
+test Green n = absurd (n refl)
+test Blue n = refl
+
+source-is : (k : Colour) → (k ≡ Green → ⊥) → (l i i′ j j′ : ℕ) → l ≤ 3 → i′ % 2 ≡ (i % 2 + 1) % 2 → j′ % 2 ≡ (j % 2 + 1) % 2 → source k (colourAt l i j) (colourAt l i j′) (colourAt l i′ j) (colourAt l i′ j′) ≡ k
+unfolding colourAt
+source-is k n l i i′ j j′ h p q =
+    rw (← mod-mod i 2, ← mod-mod j 2, p, q)
+    (agree (sourceAt k l (i % 2)) (λ j. k) 2
+    (agree (λ i. table (sourceAt k l i) 2) (λ i. table (λ j. k) 2) 2
+    (agree (block (sourceAt k)) (block (λ l i j. k)) 4 (test k n) l (omega arith)) (i % 2) (omega arith)) (j % 2) (omega arith))
+
+abbrev pub Has : Frame → Colour → Pixel → Type 0
+Has f k p = colourAt (f .layout) (p .row) (p .col) ≡ k
+
+-- at row i and column j, in each case in which `otherFrom` reads neighbours for colour k
+pub record NeighboursHave (f : Frame) (m : Mosaic) (k : Colour) (i j : ℤ) : Type 0 where
+  pub in-row : isGreen m i j ≡ true → same (m .colour i (j +ℤ pos 1)) k ≡ true → Every (Has f k) (inRow f i j)
+  pub in-column : isGreen m i j ≡ true → same (m .colour i (j +ℤ pos 1)) k ≡ false → Every (Has f k) (inColumn f i j)
+  pub on-diagonal : same (m .colour i j) k ≡ false → isGreen m i j ≡ false → Every (Has f k) (diagonal f i j)
+
+pub neighbours-have-colour : (f : Frame) → f .layout ≤ 3 → 2 ≤ f .height → 2 ≤ f .width → (first : ℕ) (rows : List ℕ) (k : Colour) → (k ≡ Green → ⊥) → (i j : ℕ) → i < f .height → j < f .width → NeighboursHave f (continued f first rows) k (pos i) (pos j)
+neighbours-have-colour f hl hH hW first rows k n i j hi hj =
+    record {
+      in-row = λ g r. let e = rw (g, r) at chosen in (left _ ∙ e, (e, tt));
+      in-column = λ g r. let e = rw (g, r) at chosen in (up _ ∙ e, (e, tt));
+      on-diagonal = λ d g. let e = rw (g, d) at chosen in (up _ ∙ left _ ∙ e, (up _ ∙ e, (left _ ∙ e, (e, tt))));
+    }
+  where
+    C : ℤ → ℤ → Colour
+    C = continued f first rows .colour
+
+    chosen : source k (C (pos i) (pos j)) (C (pos i) (pos j +ℤ pos 1)) (C (pos i +ℤ pos 1) (pos j)) (C (pos i +ℤ pos 1) (pos j +ℤ pos 1)) ≡ k
+    chosen = source-is k n (f .layout) _ _ _ _ hl (after (f .height) i hH hi) (after (f .width) j hW hj)
+
+    up : (z : ℤ) → C (pos i -ℤ pos 1) z ≡ C (pos i +ℤ pos 1) z
+    up z = parity-colour _ _ _ _ _ (before (f .height) i hH hi ∙ sym (after (f .height) i hH hi)) refl
+
+    left : (z : ℤ) → C z (pos j -ℤ pos 1) ≡ C z (pos j +ℤ pos 1)
+    left z = parity-colour _ _ _ _ _ refl (before (f .width) j hW hj ∙ sym (after (f .width) j hW hj))

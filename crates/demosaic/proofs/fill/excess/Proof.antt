@@ -1,0 +1,31 @@
+-- `demosaic::fill::excess` meets its contract. Assumes nothing.
+use native.Mathlib.Omega.{arith}
+use mir.Syntax.{w32}
+use Rattle.whole.proofs.Signed.{E, lit, nat, _⊖_, _⊗_, asked, value}
+use borrow.Author.Needs.{needs}
+use Rattle.demosaic.proofs.fill.excess.Statement.{statement}
+use Rattle.demosaic.proofs.fill.excess.Tie as tie
+
+abbrev scaled : tie.Start → E w32
+scaled c = lit 16 ⊗ nat (c .args .reading) 65535 (omega arith)
+
+abbrev less : tie.Start → E w32
+less c = nat (c .args .green) 65535 (omega arith) ⊖ scaled c
+
+cast-result : tie.Need-cast-result
+cast-result c = search needs
+
+cast-result-2 : tie.Need-cast-result-2
+cast-result-2 c = search needs
+
+mul-result : tie.Need-mul-result
+mul-result c = asked (scaled c) tt
+
+sub-result : tie.Need-sub-result
+sub-result c = asked (less c) tt
+
+returns : tie.Need-returns
+returns c = value (less c) tt
+
+pub excess-spec : {M : Type 1} → statement M
+excess-spec = tie.close (tie.spec cast-result cast-result-2 mul-result sub-result returns)

@@ -1,0 +1,62 @@
+-- The exact reconstruction of a frame: exact green, and the exact form of red and blue over it. Fractions; nothing is rounded. Assumes nothing.
+use Prim.Native.Nat.{ℕ, suc, _*_, _<_}
+use native.Mathlib.Nat.{zero-lt-suc}
+use mathlib.Core.Bool.{cond}
+use mathlib.Core.List.{List, [], _∷_, map}
+use lib.IntN.{ℤ, pos, _+ℤ_}
+use lib.ListN.{length}
+use Rattle.whole.specs.Fraction.{Fraction, natural, _+ᶠ_, _-ᶠ_, dividedBy, clampᶠ}
+use Rattle.bayer.specs.declared.colour.Colour.{Colour}
+use Rattle.bayer.specs.declared.colour.Colour.the-variants.{Red, Green, Blue}
+use Rattle.bayer.specs.declared.frame.Frame.{Frame}
+use Rattle.bayer.specs.Colour.{same}
+use Rattle.gbtf.specs.Direction.{total}
+use Rattle.gbtf.specs.Mosaic.{Mosaic, continued}
+use Rattle.gbtf.specs.GreenAt.{isGreen, exactGreenAt}
+use Rattle.demosaic.specs.Sample.{Pixel, readingOf, diagonal, inRow, inColumn}
+
+-- "exact green minus 16 × reading"
+abbrev pub exactExcess : (green : Fraction) (reading : ℕ) → Fraction
+exactExcess green reading = green -ᶠ natural (16 * reading)
+
+abbrev pub sumOfFractions : List Fraction → Fraction
+sumOfFractions [] = natural 0
+sumOfFractions (x ∷ l) = x +ᶠ sumOfFractions l
+
+-- their plain mean
+unfoldable pub mean : List Fraction → Fraction
+mean [] = natural 0
+mean (x ∷ l) = dividedBy (sumOfFractions (x ∷ l)) (suc (length l)) (zero-lt-suc (length l))
+
+-- exact green less the mean of the neighbours' exact excesses, clamped
+unfoldable pub exactFill : (green : Fraction) (excesses : List Fraction) → Fraction
+exactFill green excesses = clampᶠ (green -ᶠ mean excesses)
+
+-- over any exact greens, G
+module _ (f : Frame) (m : Mosaic) (G : (i j : ℤ) → Fraction) where
+  abbrev pub exactExcesses : List Pixel → List Fraction
+  exactExcesses l = map (λ p. exactExcess (G (pos (p .row)) (pos (p .col))) (readingOf m p)) l
+
+  unfoldable pub exactOtherFrom : (k : Colour) (i j : ℤ) → Fraction
+  exactOtherFrom k i j =
+      cond (same (m .colour i j) k) (natural (16 * m .reading i j))
+      (cond (isGreen m i j)
+      (cond (same (m .colour i (j +ℤ pos 1)) k)
+      (exactFill (G i j) (exactExcesses (inRow f i j)))
+      (exactFill (G i j) (exactExcesses (inColumn f i j))))
+      (exactFill (G i j) (exactExcesses (diagonal f i j))))
+
+  abbrev pub exactFrom : (k : Colour) (i j : ℤ) → Fraction
+  exactFrom Red i j = exactOtherFrom Red i j
+  exactFrom Green i j = G i j
+  exactFrom Blue i j = exactOtherFrom Blue i j
+
+-- plane k of a frame's exact reconstruction at row i and column j, from the frame's rows from row `first` on
+unfoldable pub exactSample : (ws : List ℕ) → 0 < total ws → Frame → (first : ℕ) (rows : List ℕ) (k : Colour) (i j : ℕ) → Fraction
+exactSample ws hT f first rows k i j = let m = continued f first rows in exactFrom f m (λ i j. exactGreenAt ws m i j hT) k (pos i) (pos j)
+
+-- how far a delivered sample of each plane may lie from it, in hundredths of a unit
+abbrev pub printed : Colour → ℕ
+printed Red = 151
+printed Green = 51
+printed Blue = 151

@@ -1,0 +1,69 @@
+-- The samples of the three planes at a pixel of a frame, by the whole-number rules. K is the share scale, ws the weights of the five differences. Assumes nothing.
+use Prim.Native.Nat.{ℕ, _*_}
+use mathlib.Core.Bool.{Bool, cond}
+use mathlib.Core.List.{List, [], _∷_, map}
+use lib.IntN.{ℤ, pos, _+ℤ_, _-ℤ_}
+use Rattle.bayer.specs.declared.colour.Colour.{Colour}
+use Rattle.bayer.specs.declared.colour.Colour.the-variants.{Red, Green, Blue}
+use Rattle.bayer.specs.declared.frame.Frame.{Frame}
+use Rattle.bayer.specs.Colour.{same}
+use Rattle.bayer.specs.Mirror.{mirror}
+use Rattle.gbtf.specs.Mosaic.{Mosaic, continued}
+use Rattle.gbtf.specs.GreenAt.{isGreen, greenAt}
+use Rattle.demosaic.specs.Fill.{excess, sumOf, fill}
+
+pub record Pixel : Type 0 where
+  pub row : ℕ
+  pub col : ℕ
+
+module _ (f : Frame) where
+  -- the pixel that the mirrors read
+  abbrev pub inside : (i j : ℤ) → Pixel
+  inside i j = record { row = mirror (f .height) i; col = mirror (f .width) j }
+
+  -- the neighbours of a pixel; outside the frame, the pixels that their mirrors read
+  abbrev pub diagonal : (i j : ℤ) → List Pixel
+  diagonal i j = inside (i -ℤ pos 1) (j -ℤ pos 1) ∷ inside (i -ℤ pos 1) (j +ℤ pos 1) ∷ inside (i +ℤ pos 1) (j -ℤ pos 1) ∷ inside (i +ℤ pos 1) (j +ℤ pos 1) ∷ []
+
+  abbrev pub inRow : (i j : ℤ) → List Pixel
+  inRow i j = inside i (j -ℤ pos 1) ∷ inside i (j +ℤ pos 1) ∷ []
+
+  abbrev pub inColumn : (i j : ℤ) → List Pixel
+  inColumn i j = inside (i -ℤ pos 1) j ∷ inside (i +ℤ pos 1) j ∷ []
+
+-- a pixel's reading
+abbrev pub readingOf : Mosaic → Pixel → ℕ
+readingOf m p = m .reading (pos (p .row)) (pos (p .col))
+
+-- from any greens in units, G
+module _ (f : Frame) (m : Mosaic) (G : (i j : ℤ) → ℕ) where
+  -- the sum of e over neighbours
+  abbrev pub excesses : List Pixel → ℤ
+  excesses l = sumOf (map (λ p. excess (G (pos (p .row)) (pos (p .col))) (readingOf m p)) l)
+
+  -- red or blue, k: at a pixel of the colour; at green, from its row if that has the colour, else from its column; at the opposite colour
+  unfoldable pub otherFrom : (k : Colour) (i j : ℤ) → ℕ
+  otherFrom k i j =
+      cond (same (m .colour i j) k) (16 * m .reading i j)
+      (cond (isGreen m i j)
+      (cond (same (m .colour i (j +ℤ pos 1)) k)
+      (fill 1 (G i j) (excesses (inRow f i j)))
+      (fill 1 (G i j) (excesses (inColumn f i j))))
+      (fill 2 (G i j) (excesses (diagonal f i j))))
+
+  -- plane k
+  abbrev pub sampleFrom : (k : Colour) (i j : ℤ) → ℕ
+  sampleFrom Red i j = otherFrom Red i j
+  sampleFrom Green i j = G i j
+  sampleFrom Blue i j = otherFrom Blue i j
+
+-- plane k of a frame at row i and column j, with GBTF's green, from the frame's rows from row `first` on
+unfoldable pub sample : (K : ℕ) (ws : List ℕ) → Frame → (first : ℕ) (rows : List ℕ) (k : Colour) (i j : ℕ) → ℕ
+sample K ws f first rows k i j = let m = continued f first rows in sampleFrom f m (λ i j. greenAt ws m i j K) k (pos i) (pos j)
+
+-- document 01's share scale and weights
+abbrev pub scale : ℕ
+scale = 134217728
+
+abbrev pub evenWeights : List ℕ
+evenWeights = 1 ∷ 1 ∷ 1 ∷ 1 ∷ 1 ∷ []

@@ -1,0 +1,2 @@
+// Red and blue, filled in from green.
+pub mod fill;

@@ -1,0 +1,92 @@
+-- Document 01's bench figures marked M, as a table of claims about the written rules. proofs/FigureTable.antt has the theorem. Assumes nothing.
+use Prim.Native.Nat.{ℕ, zero, suc, _+_, _*_}
+use mathlib.Core.Bool.{Bool, true, false, _&&_}
+use mathlib.Core.List.{List, [], _∷_, _++_}
+use lib.Dec.{eqb}
+use lib.IntN.{ℤ, pos, negsuc, _+ℤ_}
+use Rattle.bayer.specs.declared.colour.Colour.{Colour}
+use Rattle.bayer.specs.declared.colour.Colour.the-variants.{Red, Green, Blue}
+use Rattle.bayer.specs.declared.frame.Frame.{Frame}
+use Rattle.bayer.specs.Mirror.{mirror}
+use Rattle.gbtf.specs.declared.direction.Direction.{Direction}
+use Rattle.gbtf.specs.Difference.{difference}
+use Rattle.gbtf.specs.Direction.{direction, guarded}
+use Rattle.gbtf.specs.Fusion.{smallest, share, shares, sharedDifferences, fusion}
+use Rattle.demosaic.specs.Fill.{fill}
+use Rattle.demosaic.specs.Sample.{sample, scale, evenWeights}
+
+pub data Claim : Type 0 where
+  -- the difference, for a centre that is green or not
+  differenceIs : (green : Bool) (c l r p q : ℕ) → ℤ → Claim
+  -- the share of guarded sum t, where the smallest is m
+  shareIs : (m t : ℕ) → ℕ → Claim
+  -- of four directions of equal t: what their five-sums add to, and what fusion adds
+  fusionAdds : (t : ℕ) (east west north south : ℤ) (sum : ℤ) → ℤ → Claim
+  -- fills from 2h neighbours, by the sum of their e
+  fillIs : (h g : ℕ) (sum : ℤ) → ℕ → Claim
+  mirrorReads : (size : ℕ) (position : ℤ) → ℕ → Claim
+  -- every sample of the three planes of the 8 by 8 frame, layout 0, whose red, green and blue readings are these
+  planesOf : (red green blue : ℕ) → (R G B : ℕ) → Claim
+
+abbrev pub equal : ℤ → ℤ → Bool
+equal (pos m) (pos n) = eqb m n
+equal (pos m) (negsuc n) = false
+equal (negsuc m) (pos n) = false
+equal (negsuc m) (negsuc n) = eqb m n
+
+abbrev pub adds : Direction → List Direction → ℤ
+adds d l = fusion (sharedDifferences scale (smallest d l) (d ∷ l)) (shares scale (smallest d l) (d ∷ l)) 5
+
+-- n times over
+abbrev pub times : ℕ → List ℕ → List ℕ
+times zero l = []
+times (suc n) l = l ++ times n l
+
+abbrev pub frame8 : Frame
+frame8 = record { width = 8; height = 8; layout = 0 }
+
+abbrev pub readings8 : (red green blue : ℕ) → List ℕ
+readings8 red green blue = times 4 (times 4 (red ∷ green ∷ []) ++ times 4 (green ∷ blue ∷ []))
+
+-- for each number below n
+abbrev pub all : ℕ → (ℕ → Bool) → Bool
+all zero f = true
+all (suc n) f = f n && all n f
+
+abbrev pub plane8Is : List ℕ → Colour → ℕ → Bool
+plane8Is readings k v = all 8 (λ i. all 8 (λ j. eqb (sample scale evenWeights frame8 0 readings k i j) v))
+
+abbrev pub holds : Claim → Bool
+holds (differenceIs b c l r p q z) = equal (difference b c l r p q) z
+holds (shareIs m t q) = eqb (share scale m t) q
+holds (fusionAdds t e w n s sum z) = equal (e +ℤ w +ℤ n +ℤ s) sum && equal (adds (direction e t) (direction w t ∷ direction n t ∷ direction s t ∷ [])) z
+holds (fillIs h g sum v) = eqb (fill h g sum) v
+holds (mirrorReads size z v) = eqb (mirror size z) v
+holds (planesOf red green blue R G B) = plane8Is (readings8 red green blue) Red R && (plane8Is (readings8 red green blue) Green G && plane8Is (readings8 red green blue) Blue B)
+
+abbrev pub every : List Claim → Bool
+every [] = true
+every (c ∷ l) = holds c && every l
+
+-- of one pixel's numbers
+abbrev pub pixelFigures : List Claim
+pixelFigures =
+    differenceIs false 100 10 20 90 98 (negsuc 327) ∷ differenceIs true 100 10 20 90 98 (pos 328)
+    ∷ shareIs 4 4 134217728 ∷ shareIs 4 8 33554432 ∷ shareIs 4 12 14913080
+    ∷ fusionAdds 4 (pos 3) (pos 0) (pos 0) (pos 0) (pos 3) (pos 1)
+    ∷ fusionAdds 9 (pos 5) (negsuc 6) (pos 2) (pos 2) (pos 2) (pos 0)
+    ∷ fusionAdds 4 (negsuc 1) (pos 0) (pos 0) (pos 0) (negsuc 1) (pos 0)
+    ∷ fusionAdds 9 (negsuc 4) (pos 6) (negsuc 1) (negsuc 1) (negsuc 2) (negsuc 0)
+    ∷ fillIs 2 10 (pos 2) 10 ∷ fillIs 2 10 (negsuc 1) 11 ∷ fillIs 1 10 (pos 1) 10
+    ∷ mirrorReads 8 (negsuc 0) 1 ∷ mirrorReads 8 (negsuc 6) 7 ∷ mirrorReads 8 (pos 8) 6 ∷ mirrorReads 8 (pos 14) 0
+    ∷ []
+
+-- of whole frames
+abbrev pub frameFigures : List Claim
+frameFigures =
+    planesOf 400 200 100 6400 3200 1600
+    ∷ planesOf 4095 0 0 65520 0 0
+    ∷ []
+
+abbrev pub figures : List Claim
+figures = pixelFigures ++ frameFigures

@@ -1,0 +1,5 @@
+pub mod PixelLaws
+pub mod Mean
+pub mod GreenError
+pub mod GreenBound
+pub mod GreenLocal

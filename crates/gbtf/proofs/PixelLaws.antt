@@ -1,0 +1,79 @@
+-- Bounds on the numbers of one pixel, and document 01's own forms of the sums. Assumes nothing.
+use mathlib.Core.Path.{_≡_, refl}
+use mathlib.Core.Bool.{Bool, true, false}
+use mathlib.Core.List.{List, [], _∷_}
+use Prim.Native.Nat.{ℕ, _+_, _*_, _^_, _≤_, _<_}
+use native.Mathlib.Nat.{le-refl, le-trans, lt-of-le-of-lt, mul-comm, mul-le-mul, mul-le-mul-left, mul-pos, div-le-of-le-mul, mul-div-cancel}
+use native.Mathlib.Omega.{arith}
+use lib.Dec.{lit<}
+use lib.IntN.{ℤ, pos, negℤ, natAbs, _+ℤ_, _-ℤ_, _*ℤ_}
+use lib.ListN.{getD}
+use mir.Syntax.{w64}
+use Rattle.whole.specs.Floor.{floorDiv}
+use Rattle.whole.proofs.Pairs.{Pair, anyₚ, natₚ, _+ₚ_, _-ₚ_, negₚ, _*ₚ_, eq-by, within-by}
+use Rattle.whole.proofs.FloorLaws.{floor-within}
+use Rattle.whole.proofs.Magnitudes.{sub-within}
+use Rattle.whole.proofs.Signed.{E, lit, nat, int, _⊕_, _⊗_, within}
+use Rattle.gbtf.specs.Difference.{difference, gradient, Readings}
+use Rattle.gbtf.specs.Direction.{directionSum, fiveSum, total, direction, t}
+use Rattle.gbtf.specs.Fusion.{share, fusion, Fitting}
+
+-- ---- differences and gradients
+abbrev pub differenceₚ : (green : Bool) (c l r p q : ℕ) → Pair (difference green c l r p q)
+unfolding difference
+differenceₚ false c l r p q = 2 *ₚ (natₚ l +ₚ natₚ r) -ₚ 2 *ₚ natₚ c -ₚ natₚ p -ₚ natₚ q
+differenceₚ true c l r p q = 2 *ₚ natₚ c -ₚ 2 *ₚ (natₚ l +ₚ natₚ r) +ₚ natₚ p +ₚ natₚ q
+
+pub difference-within : (green : Bool) {c l r p q : ℕ} → Readings c l r p q → natAbs (difference green c l r p q) ≤ 16380
+unfolding difference
+difference-within false {c} {l} {r} {p} {q} h = within-by (differenceₚ false c l r p q) (omega arith) (omega arith)
+difference-within true {c} {l} {r} {p} {q} h = within-by (differenceₚ true c l r p q) (omega arith) (omega arith)
+
+pub difference-opposite : (c l r p q : ℕ) → difference true c l r p q ≡ negℤ (difference false c l r p q)
+unfolding difference
+difference-opposite c l r p q = eq-by (differenceₚ true c l r p q) (negₚ (differenceₚ false c l r p q)) (omega arith)
+
+pub gradient-within : (d e : ℤ) → natAbs d ≤ 16380 → natAbs e ≤ 16380 → gradient d e ≤ 32760
+gradient-within d e h k = sub-within d e h k
+
+-- ---- the sums of a direction
+pub direction-sum-within : {a b c d e f g h i : ℕ} → a ≤ 32760 → b ≤ 32760 → c ≤ 32760 → d ≤ 32760 → e ≤ 32760 → f ≤ 32760 → g ≤ 32760 → h ≤ 32760 → i ≤ 32760
+    → directionSum ((a ∷ b ∷ c ∷ []) ∷ (d ∷ e ∷ f ∷ []) ∷ (g ∷ h ∷ i ∷ []) ∷ []) ≤ 294840
+direction-sum-within ha hb hc hd he hf hg hh hi = omega arith
+
+pub five-sum-within : (ws : List ℕ) (D : ℕ → ℤ) {B : ℕ} → ((k : ℕ) → natAbs (D k) ≤ B) → natAbs (fiveSum ws D) ≤ total ws * B
+five-sum-within ws D {B} h = le-trans (within (by 0 ⊕ by 1 ⊕ by 2 ⊕ by 3 ⊕ by 4)) (omega arith)
+  where
+    by : ℕ → E w64
+    by k = nat (getD ws k 0) (getD ws k 0) (le-refl _) ⊗ int (D k) B (h k)
+
+pub five-sum-even : (D : ℕ → ℤ) → fiveSum (1 ∷ 1 ∷ 1 ∷ 1 ∷ 1 ∷ []) D ≡ D 0 +ℤ D 1 +ℤ D 2 +ℤ D 3 +ℤ D 4
+five-sum-even D =
+    eq-by (1 *ₚ anyₚ (D 0) +ₚ 1 *ₚ anyₚ (D 1) +ₚ 1 *ₚ anyₚ (D 2) +ₚ 1 *ₚ anyₚ (D 3) +ₚ 1 *ₚ anyₚ (D 4))
+    (anyₚ (D 0) +ₚ anyₚ (D 1) +ₚ anyₚ (D 2) +ₚ anyₚ (D 3) +ₚ anyₚ (D 4)) (omega arith)
+
+-- ---- shares and fusion
+pub share-le : (K : ℕ) {m t : ℕ} → m ≤ t → share K m t ≤ K
+share-le K {m} {t} h = div-le-of-le-mul (t * t) (omega (arith, mul-le-mul-left K (mul-le-mul h h)))
+
+-- the smallest sum has the whole share
+pub share-self : (K t : ℕ) → 0 < t → share K t t ≡ K
+share-self K t h = mul-div-cancel K (mul-pos h h)
+
+pub fusion-five : (N : ℤ) (S : ℕ) → fusion N S 5 ≡ floorDiv (pos 8 *ℤ N +ℤ pos (5 * S)) (10 * S)
+unfolding fusion
+fusion-five N S = let e : 2 * (5 * S) ≡ 10 * S = omega arith in rw e
+
+pub fusion-within : (N : ℤ) {S T : ℕ} → natAbs N ≤ 1125899906842624 → T ≤ 128 → S ≤ 536870912 → natAbs (fusion N S T) ≤ 9007267974217728
+unfolding fusion
+fusion-within N {S} {T} h g k = le-trans (floor-within (pos 8 *ℤ N +ℤ pos (T * S)) (2 * (T * S))) (within {w = w64} (lit 8 ⊗ int N 1125899906842624 h ⊕ nat (T * S) 68719476736 (mul-le-mul g k)))
+
+-- ---- 64 bits: gradients to 294840 at shares to 2^27, and to 884520 at shares to 2^24
+fitting-to : (K B : ℕ) {A : ℤ} {s : ℕ} → natAbs A ≤ 2097152 → s ≤ B → 4 ≤ B → K * (B * B) < 18446744073709551616 → Fitting K (direction A s)
+fitting-to K B {A} {s} h g b l = let m : t (direction A s) ≤ B = omega arith in record { sum = h; square = lt-of-le-of-lt (mul-le-mul-left K (mul-le-mul m m)) l }
+
+pub fitting : (A : ℤ) {s : ℕ} → natAbs A ≤ 81900 → s ≤ 294840 → Fitting (2 ^ 27) (direction A s)
+fitting A h g = fitting-to (2 ^ 27) 294840 (omega arith) g (omega arith) (lit< tt)
+
+pub fitting-24 : (A : ℤ) {s : ℕ} → natAbs A ≤ 1638000 → s ≤ 884520 → Fitting (2 ^ 24) (direction A s)
+fitting-24 A h g = fitting-to (2 ^ 24) 884520 (omega arith) g (omega arith) (lit< tt)

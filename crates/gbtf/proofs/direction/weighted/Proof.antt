@@ -1,0 +1,27 @@
+-- `gbtf::direction::weighted` meets its contract. Assumes nothing.
+use native.Mathlib.Omega.{arith}
+use lib.Dec.{lit<}
+use mir.Syntax.{w32, w64}
+use Rattle.whole.proofs.Signed.{E, nat, widened, _⊗_, asked, value}
+use Rattle.whole.proofs.Signed.{wide-cast, bounded}
+use borrow.Author.Needs.{needs}
+use Rattle.gbtf.proofs.direction.weighted.Statement.{statement}
+use Rattle.gbtf.proofs.direction.weighted.Tie as tie
+
+abbrev product : tie.Start → E w64
+product c = nat (c .args .weight) 255 (omega arith) ⊗ widened w32 (c .args .d) (c .fits .d) (lit< tt)
+
+cast-result : tie.Need-cast-result
+cast-result c = search needs
+
+cast-result-2 : tie.Need-cast-result-2
+cast-result-2 c = wide-cast _ (c .fits .d)
+
+mul-result : tie.Need-mul-result
+mul-result c = asked (product c) tt
+
+returns : tie.Need-returns
+returns c = (value (product c) tt, bounded (product c) tt)
+
+pub weighted-spec : {M : Type 1} → statement M
+weighted-spec = tie.close (tie.spec cast-result cast-result-2 mul-result returns)

@@ -1,0 +1,157 @@
+-- `gbtf::fusion::green` meets its contract: it adds up in another order than the definition. Assumes nothing.
+use Prim.Native.Nat.{ℕ, _+_, _*_, _≤_, min}
+use native.Mathlib.Nat.{le-trans, le-of-eq}
+use native.Mathlib.Omega.{arith}
+use mathlib.Core.List.{List, [], _∷_}
+use mathlib.Core.Path.{_≡_, _∙_, ap, ap₂}
+use lib.IntN.{ℤ, pos, natAbs, _+ℤ_, _*ℤ_}
+use mir.Syntax.{w64}
+use Rattle.whole.specs.Clamp.{clamp}
+use Rattle.whole.proofs.Pairs.{anyₚ, natₚ, _+ₚ_, eq-by}
+use Rattle.whole.proofs.Signed.{E, nat, int, _⊕_, asked, value}
+use Rattle.gbtf.specs.declared.direction.Direction.{Direction}
+use Rattle.gbtf.specs.Direction.{t}
+use Rattle.gbtf.specs.Fusion.{smallest, share, fusion, green}
+use Rattle.whole.proofs.Signed.{bounded}
+use Rattle.gbtf.proofs.PixelLaws.{fusion-within}
+use borrow.Author.Needs.{needs}
+use Rattle.gbtf.proofs.fusion.green.Statement.{statement}
+use Rattle.gbtf.proofs.fusion.green.Tie as tie
+
+least : (a b c d : ℕ) {m : ℕ} → m ≡ min a (min b (min c d)) → (m ≤ a) × (m ≤ b) × (m ≤ c) × (m ≤ d)
+least a b c d e = (omega arith, omega arith, omega arith, omega arith)
+
+below : (c : tie.After-smallest) → let a = c .before .args in let m = c .smallest .result in (m ≤ t (a .east)) × (m ≤ t (a .west)) × (m ≤ t (a .north)) × (m ≤ t (a .south))
+below c = least _ _ _ _ (c .smallest .ensures)
+
+abbrev two : tie.After-shared2 → E w64
+two c = int (c .before .shared .result) 281474976710656 (c .before .shared .ensures .1) ⊕ int (c .shared2 .result) 281474976710656 (c .shared2 .ensures .1)
+
+abbrev three : tie.After-shared3 → E w64
+three c = two (c .before) ⊕ int (c .shared3 .result) 281474976710656 (c .shared3 .ensures .1)
+
+abbrev four : tie.After-shared4 → E w64
+four c = three (c .before) ⊕ int (c .shared4 .result) 281474976710656 (c .shared4 .ensures .1)
+
+abbrev units : tie.After-fusion → E w64
+units c = nat (16 * c .before .before .before .before .before .before .before .before .before .before .args .c) 1048560 (omega arith)
+    ⊕ int (c .fusion .result) 9007267974217728 (le-trans (le-of-eq (ap natAbs (c .fusion .ensures))) (fusion-within _ (bounded (four (c .before)) tt) (omega arith) (omega arith)))
+
+regroup : (a b c d : ℤ) → a +ℤ b +ℤ c +ℤ d ≡ a +ℤ (b +ℤ (c +ℤ (d +ℤ pos 0)))
+regroup a b c d = eq-by (anyₚ a +ₚ anyₚ b +ₚ anyₚ c +ₚ anyₚ d) (anyₚ a +ₚ (anyₚ b +ₚ (anyₚ c +ₚ (anyₚ d +ₚ natₚ 0)))) (omega arith)
+
+green-is : (K T c : ℕ) (d₁ d₂ d₃ d₄ : Direction) {m q₁ q₂ q₃ q₄ : ℕ} {r₁ r₂ r₃ r₄ : ℤ}
+    → m ≡ smallest d₁ (d₂ ∷ d₃ ∷ d₄ ∷ [])
+    → q₁ ≡ share K m (t d₁) → q₂ ≡ share K m (t d₂) → q₃ ≡ share K m (t d₃) → q₄ ≡ share K m (t d₄)
+    → r₁ ≡ pos q₁ *ℤ d₁ .differences → r₂ ≡ pos q₂ *ℤ d₂ .differences → r₃ ≡ pos q₃ *ℤ d₃ .differences → r₄ ≡ pos q₄ *ℤ d₄ .differences
+    → clamp (pos (16 * c) +ℤ fusion (r₁ +ℤ r₂ +ℤ r₃ +ℤ r₄) (q₁ + q₂ + q₃ + q₄) T) ≡ green K T c d₁ (d₂ ∷ d₃ ∷ d₄ ∷ [])
+unfolding green
+green-is K T c d₁ d₂ d₃ d₄ m p q r s e f g h = rw (h, g, f, e, s, r, q, p, m) (ap₂ (λ x y. clamp (pos (16 * c) +ℤ fusion x y T)) (regroup (x d₁) (x d₂) (x d₃) (x d₄)) (omega arith))
+  where
+    x : Direction → ℤ
+    x d = pos (share K (smallest d₁ (d₂ ∷ d₃ ∷ d₄ ∷ [])) (t d)) *ℤ d .differences
+
+smallest-requires : tie.Need-smallest-requires
+smallest-requires c κs = search needs
+
+share-of-requires : tie.Need-share-of-requires
+share-of-requires c κs = let s = c .before in (s .pre .0 .0, s .pre .0 .1, below c .0, s .pre .1 .0)
+
+share-of-requires-2 : tie.Need-share-of-requires-2
+share-of-requires-2 c κs = let s = c .before in (s .before .pre .0 .0, s .before .pre .0 .1, below s .1, s .before .pre .1 .1)
+
+share-of-requires-3 : tie.Need-share-of-requires-3
+share-of-requires-3 c κs = let s = c .before .before in (s .before .pre .0 .0, s .before .pre .0 .1, below s .2, s .before .pre .1 .2)
+
+share-of-requires-4 : tie.Need-share-of-requires-4
+share-of-requires-4 c κs = let s = c .before .before .before in (s .before .pre .0 .0, s .before .pre .0 .1, below s .3, s .before .pre .1 .3)
+
+shared-requires : tie.Need-shared-requires
+shared-requires c κs = search needs
+
+shared-requires-2 : tie.Need-shared-requires-2
+shared-requires-2 c κs = search needs
+
+add-a : tie.Need-add-a
+add-a c = asked (two c) tt
+
+shared-requires-3 : tie.Need-shared-requires-3
+shared-requires-3 c κs = search needs
+
+add-a-2 : tie.Need-add-a-2
+add-a-2 c = asked (three c) tt
+
+shared-requires-4 : tie.Need-shared-requires-4
+shared-requires-4 c κs = search needs
+
+add-a-3 : tie.Need-add-a-3
+add-a-3 c = asked (four c) tt
+
+mul-clamp : tie.Need-mul-clamp
+mul-clamp c = search needs
+
+cast-clamp : tie.Need-cast-clamp
+cast-clamp c = search needs
+
+add-fusion : tie.Need-add-fusion
+add-fusion c = search needs
+
+add-fusion-2 : tie.Need-add-fusion-2
+add-fusion-2 c = search needs
+
+add-fusion-3 : tie.Need-add-fusion-3
+add-fusion-3 c = search needs
+
+fusion-requires : tie.Need-fusion-requires
+fusion-requires c κs = (bounded (four c) tt, omega arith, omega arith)
+
+add-clamp : tie.Need-add-clamp
+add-clamp c = asked (units c) tt
+
+clamp-requires : tie.Need-clamp-requires
+clamp-requires c κs = search needs
+
+returns : tie.Need-returns
+returns c =
+    let f = c .before in
+    let p₄ = f .before in
+    let p₃ = p₄ .before in
+    let p₂ = p₃ .before in
+    let p₁ = p₂ .before in
+    let q₄ = p₁ .before in
+    let q₃ = q₄ .before in
+    let q₂ = q₃ .before in
+    let q₁ = q₂ .before in
+    let m = q₁ .before in
+    let a = m .before .args in
+    c .clamp .ensures
+    ∙ ap clamp (value (units f) tt ∙ ap (λ z. pos (16 * a .c) +ℤ z) (f .fusion .ensures ∙ ap (λ z. fusion z (q₁ .share-of .result + q₂ .share-of2 .result + q₃ .share-of3 .result + q₄ .share-of4 .result) (a .t)) (value (four p₄) tt)))
+    ∙ green-is (a .k) (a .t) (a .c) (a .east) (a .west) (a .north) (a .south) (m .smallest .ensures)
+    (q₁ .share-of .ensures .0) (q₂ .share-of2 .ensures .0) (q₃ .share-of3 .ensures .0) (q₄ .share-of4 .ensures .0)
+    (p₁ .shared .ensures .0) (p₂ .shared2 .ensures .0) (p₃ .shared3 .ensures .0) (p₄ .shared4 .ensures .0)
+
+pub green-spec : {M : Type 1} → statement M
+green-spec =
+    tie.close
+    (tie.spec
+    smallest-requires
+    share-of-requires
+    share-of-requires-2
+    share-of-requires-3
+    share-of-requires-4
+    shared-requires
+    shared-requires-2
+    add-a
+    shared-requires-3
+    add-a-2
+    shared-requires-4
+    add-a-3
+    mul-clamp
+    cast-clamp
+    add-fusion
+    add-fusion-2
+    add-fusion-3
+    fusion-requires
+    add-clamp
+    clamp-requires
+    returns)

@@ -1,0 +1,22 @@
+-- `gbtf::fusion::shared` meets its contract. Assumes nothing.
+use mir.Syntax.{w64}
+use Rattle.whole.proofs.Signed.{E, nat, int, _⊗_, asked, value}
+use Rattle.whole.proofs.Signed.{bounded}
+use borrow.Author.Needs.{needs}
+use Rattle.gbtf.proofs.fusion.shared.Statement.{statement}
+use Rattle.gbtf.proofs.fusion.shared.Tie as tie
+
+abbrev product : tie.Start → E w64
+product c = nat (c .args .q) 134217728 (c .pre .0) ⊗ int (c .args .d .differences) 2097152 (c .pre .1)
+
+cast-result : tie.Need-cast-result
+cast-result c = search needs
+
+mul-result : tie.Need-mul-result
+mul-result c = asked (product (c .before .before)) tt
+
+returns : tie.Need-returns
+returns c = (value (product (c .before .before)) tt, bounded (product (c .before .before)) tt)
+
+pub shared-spec : {M : Type 1} → statement M
+shared-spec = tie.close (tie.spec cast-result mul-result returns)

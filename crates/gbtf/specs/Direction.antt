@@ -1,0 +1,34 @@
+-- What green takes from one direction: its direction sum, guarded, and its five-sum. Assumes nothing.
+use Prim.Native.Nat.{ℕ, _+_, _*_, max}
+use mathlib.Core.List.{List, [], _∷_}
+use lib.IntN.{ℤ, pos, _+ℤ_, _*ℤ_}
+use lib.ListN.{getD}
+use Rattle.gbtf.specs.declared.direction.Direction.{Direction}
+
+-- direction sum: the nine gradients of a window, which stand as three rows of three
+abbrev pub sum3 : (ℕ → ℕ) → ℕ
+sum3 f = f 0 + f 1 + f 2
+
+abbrev pub directionSum : List (List ℕ) → ℕ
+directionSum w = sum3 (λ i. sum3 (λ j. getD (getD w i []) j 0))
+
+-- guarded sum t: max(s, 4)
+abbrev pub guarded : ℕ → ℕ
+guarded s = max s 4
+
+-- five-sum: the five differences from the pixel outward, by their weights (document 01 has five ones)
+abbrev pub fiveSum : (weights : List ℕ) (D : ℕ → ℤ) → ℤ
+fiveSum ws D =
+    pos (getD ws 0 0) *ℤ D 0 +ℤ pos (getD ws 1 0) *ℤ D 1 +ℤ pos (getD ws 2 0) *ℤ D 2 +ℤ pos (getD ws 3 0) *ℤ D 3 +ℤ pos (getD ws 4 0) *ℤ D 4
+
+-- the weights' total T
+abbrev pub total : (weights : List ℕ) → ℕ
+total ws = getD ws 0 0 + getD ws 1 0 + getD ws 2 0 + getD ws 3 0 + getD ws 4 0
+
+-- a direction, of five-sum A and direction sum s
+abbrev pub direction : (A : ℤ) (s : ℕ) → Direction
+direction A s = record { differences = A; gradients = s }
+
+-- its guarded sum
+abbrev pub t : Direction → ℕ
+t d = guarded (d .gradients)

@@ -1,0 +1,67 @@
+-- Green over a continued mosaic: differences, gradients and windows along each axis, and the four directions. Assumes nothing.
+use Prim.Native.Nat.{ℕ, _*_, _<_}
+use mathlib.Core.Bool.{Bool, cond}
+use mathlib.Core.List.{List, [], _∷_}
+use lib.IntN.{ℤ, pos, _+ℤ_, _-ℤ_}
+use Rattle.whole.specs.Fraction.{Fraction, natural}
+use Rattle.bayer.specs.declared.colour.Colour.the-variants.{Green}
+use Rattle.bayer.specs.Colour.{same}
+use Rattle.gbtf.specs.declared.direction.Direction.{Direction}
+use Rattle.gbtf.specs.Difference.{difference, gradient}
+use Rattle.gbtf.specs.Direction.{directionSum, fiveSum, total, direction}
+use Rattle.gbtf.specs.Fusion.{green}
+use Rattle.gbtf.specs.Exact.{exactGreen}
+use Rattle.gbtf.specs.Mosaic.{Mosaic}
+
+-- along a line of positions, of which some are green: the difference at position k
+abbrev pub differenceAlong : (green : ℤ → Bool) (x : ℤ → ℕ) → ℤ → ℤ
+differenceAlong green x k = difference (green k) (x k) (x (k -ℤ pos 1)) (x (k +ℤ pos 1)) (x (k -ℤ pos 2)) (x (k +ℤ pos 2))
+
+-- and the gradient, from the differences along the line
+abbrev pub gradientAlong : (D : ℤ → ℤ) → ℤ → ℕ
+gradientAlong D k = gradient (D (k -ℤ pos 1)) (D (k +ℤ pos 1))
+
+module _ (m : Mosaic) where
+  abbrev pub isGreen : (i j : ℤ) → Bool
+  isGreen i j = same (m .colour i j) Green
+
+  -- along a row
+  unfoldable pub DH : (i j : ℤ) → ℤ
+  DH i j = differenceAlong (λ k. isGreen i k) (λ k. m .reading i k) j
+
+  unfoldable pub GH : (i j : ℤ) → ℕ
+  GH i j = gradientAlong (λ k. DH i k) j
+
+  -- along a column
+  unfoldable pub DV : (i j : ℤ) → ℤ
+  DV i j = differenceAlong (λ k. isGreen k j) (λ k. m .reading k j) i
+
+  unfoldable pub GV : (i j : ℤ) → ℕ
+  GV i j = gradientAlong (λ k. DV k j) i
+
+-- the window of gradients from row i and column j on
+abbrev pub threeFrom : (ℤ → ℕ) → ℤ → List ℕ
+threeFrom G j = G j ∷ G (j +ℤ pos 1) ∷ G (j +ℤ pos 2) ∷ []
+
+abbrev pub window : (G : ℤ → ℤ → ℕ) (i j : ℤ) → List (List ℕ)
+window G i j = threeFrom (G i) j ∷ threeFrom (G (i +ℤ pos 1)) j ∷ threeFrom (G (i +ℤ pos 2)) j ∷ []
+
+module _ (ws : List ℕ) (m : Mosaic) (i j : ℤ) where
+  abbrev pub east : Direction
+  east = direction (fiveSum ws (λ k. DH m i (j +ℤ pos k))) (directionSum (window (GH m) (i -ℤ pos 1) j))
+
+  abbrev pub west : Direction
+  west = direction (fiveSum ws (λ k. DH m i (j -ℤ pos k))) (directionSum (window (GH m) (i -ℤ pos 1) (j -ℤ pos 2)))
+
+  abbrev pub north : Direction
+  north = direction (fiveSum ws (λ k. DV m (i -ℤ pos k) j)) (directionSum (window (GV m) (i -ℤ pos 2) (j -ℤ pos 1)))
+
+  abbrev pub south : Direction
+  south = direction (fiveSum ws (λ k. DV m (i +ℤ pos k) j)) (directionSum (window (GV m) i (j -ℤ pos 1)))
+
+  -- green in units, at share scale K
+  unfoldable pub greenAt : (K : ℕ) → ℕ
+  greenAt K = cond (isGreen m i j) (16 * m .reading i j) (green K (total ws) (m .reading i j) east (west ∷ north ∷ south ∷ []))
+
+  unfoldable pub exactGreenAt : 0 < total ws → Fraction
+  exactGreenAt h = cond (isGreen m i j) (natural (16 * m .reading i j)) (exactGreen (total ws) (m .reading i j) h east (west ∷ north ∷ south ∷ []))

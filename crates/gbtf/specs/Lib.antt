@@ -1,0 +1,6 @@
+pub mod Difference
+pub mod Direction
+pub mod Fusion
+pub mod Exact
+pub mod Mosaic
+pub mod GreenAt

@@ -1,0 +1,91 @@
+ghost use mathlib.Core.Path.{_≡_};
+ghost use mathlib.Core.List.{_∷_, []};
+ghost use Prim.Native.Nat.{_*_, _≤_, _<_, min};
+ghost use lib.IntN.{pos, natAbs, _+ℤ_, _*ℤ_};
+ghost use Rattle.gbtf.specs.Direction.{t};
+ghost use Rattle.gbtf.specs.Fusion.{smallest, share, fusion, green, Fitting};
+use crate::direction::Direction;
+use crate::direction::guard;
+
+fn lesser(a: u64, b: u64) -> u64
+    ensures { λ r. ⌜ r ≡ min a b ⌝ }
+{
+    if a < b { a } else { b }
+}
+
+// The smallest of the four guarded sums.
+fn smallest(east: Direction, west: Direction, north: Direction, south: Direction) -> u64
+    ensures { λ m. ⌜ m ≡ smallest east (west ∷ north ∷ south ∷ []) ⌝ }
+{
+    lesser(
+        guard(east.gradients),
+        lesser(
+            guard(west.gradients),
+            lesser(guard(north.gradients), guard(south.gradients)),
+        ),
+    )
+}
+
+// The share, at share scale k, of a direction of guarded sum t, where m is the smallest.
+fn share(k: u64, m: u64, t: u64) -> u64
+    requires { ⌜ (0 < k) × (m ≤ t) × (0 < t) × (k * (t * t) < 18446744073709551616) ⌝ }
+    ensures { λ q. ⌜ q ≡ share k m t ⌝ }
+{
+    k * (m * m) / (t * t)
+}
+
+// The share of a direction.
+fn share_of(k: u64, m: u64, d: Direction) -> u64
+    requires { ⌜ (0 < k) × (k ≤ 134217728) × (m ≤ t d) × (Fitting k d) ⌝ }
+    ensures { λ q. ⌜ (q ≡ share k m (t d)) × (q ≤ 134217728) ⌝ }
+{
+    share(k, m, guard(d.gradients))
+}
+
+// A direction's five-sum by its share.
+fn shared(q: u64, d: Direction) -> i64
+    requires { ⌜ (q ≤ 134217728) × (natAbs (d .differences) ≤ 2097152) ⌝ }
+    ensures { λ r. ⌜ (r ≡ pos q *ℤ d .differences) × (natAbs r ≤ 281474976710656) ⌝ }
+{
+    q as i64 * d.differences
+}
+
+// 8n + h.
+fn raised(n: i64, h: u64) -> i64
+    requires { ⌜ (natAbs n ≤ 1125899906842624) × (h ≤ 68719476736) ⌝ }
+    ensures { λ r. ⌜ r ≡ pos 8 *ℤ n +ℤ pos h ⌝ }
+{
+    8 * n + h as i64
+}
+
+// What fusion adds to 16c: n the sum of shares times five-sums, s the sum of shares, t the weights' total.
+fn fusion(n: i64, s: u64, t: u64) -> i64
+    requires { ⌜ (natAbs n ≤ 1125899906842624) × (t ≤ 128) × (s ≤ 536870912) ⌝ }
+    ensures { λ f. ⌜ f ≡ fusion n s t ⌝ }
+{
+    let ts = t * s;
+    whole::div_floor(raised(n, ts), 2 * ts)
+}
+
+// Green in units at a red or blue pixel of reading c, at share scale k and weights of total t.
+pub fn green(
+    k: u64,
+    t: u64,
+    c: u16,
+    east: Direction,
+    west: Direction,
+    north: Direction,
+    south: Direction,
+) -> u16
+    requires { ⌜ (0 < k) × (k ≤ 134217728) × (t ≤ 128) ⌝ }
+    requires { ⌜ (Fitting k east) × (Fitting k west) × (Fitting k north) × (Fitting k south) ⌝ }
+    ensures { λ g. ⌜ g ≡ green k t c east (west ∷ north ∷ south ∷ []) ⌝ }
+{
+    let m = smallest(east, west, north, south);
+    let e = share_of(k, m, east);
+    let w = share_of(k, m, west);
+    let n = share_of(k, m, north);
+    let s = share_of(k, m, south);
+    let a = shared(e, east) + shared(w, west) + shared(n, north) + shared(s, south);
+    whole::clamp((16 * (c as u64)) as i64 + fusion(a, e + w + n + s, t))
+}
