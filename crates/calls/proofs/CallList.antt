@@ -1,15 +1,15 @@
 -- After any list of calls, each covered row holds the rule's samples, and every other row is as before. For any rule. Assumes nothing.
-use mathlib.Core.Path.{_≡_, refl, _∙_, ap}
+use mathlib.Core.Path.{_≡_, _∙_, ap}
 use mathlib.Core.Logic.{_⊎_, inl, inr, ⊎-elim}
 use mathlib.Core.List.{List, [], _∷_, _++_}
-use Prim.Native.Nat.{ℕ, zero, suc, _+_, _*_, _-_, _≤_, _<_, min}
+use Prim.Native.Nat.{ℕ, suc, _+_, _*_, _-_, _≤_, _<_}
 use native.Mathlib.Nat.{mul-le-mul-right}
 use native.Mathlib.Decide.{decLe, decLt}
 use native.Mathlib.Omega.{arith}
 use lib.ListN.{length, getD, take, drop, length-append, length-take, length-drop, take-append-drop, List·getD-append}
 use lib.Seq.{getD-append-add, getD-take, getD-drop, length-take-le, drop-drop}
 use Rattle.bayer.specs.declared.colour.Colour.{Colour}
-use Rattle.calls.specs.Calls.{Planes, stretch, put, Call, accepted, refused, Rows, Step, Runs, Covers, Covered, After}
+use Rattle.calls.specs.Calls.{Planes, stretch, put, Call, accepted, refused, Step, Runs, Covers, Covered, After}
 
 dec-covers : (c : Call) (i : ℕ) → Dec (Covers c i)
 dec-covers (accepted a n) i = go (decLe a i) (decLt i (a + n))

@@ -1,6 +1,6 @@
 -- Locality of the fills: red and blue of row i depend on the greens and readings of the pixels at most one row away, over any greens; likewise their exact forms. Assumes nothing.
 use mathlib.Core.Path.{_≡_, ap, ap₂}
-use mathlib.Core.List.{List, [], _∷_, map}
+use mathlib.Core.List.{List, map}
 use mathlib.Core.Bool.{cond}
 use Prim.Native.Nat.{ℕ, _*_}
 use lib.IntN.{ℤ, pos, _+ℤ_, _-ℤ_}
@@ -14,7 +14,7 @@ use Rattle.gbtf.specs.Mosaic.{Mosaic}
 use Rattle.gbtf.specs.GreenAt.{isGreen}
 use Rattle.gbtf.proofs.GreenLocal.{Near}
 use Rattle.demosaic.specs.Fill.{excess, sumOf, fill}
-use Rattle.demosaic.specs.Sample.{Pixel, diagonal, inRow, inColumn, readingOf, excesses, otherFrom, sampleFrom}
+use Rattle.demosaic.specs.Sample.{Pixel, diagonal, inRow, inColumn, excesses, otherFrom, sampleFrom}
 use Rattle.demosaic.specs.Exact.{exactExcess, exactFill, exactExcesses, exactOtherFrom, exactFrom}
 use Rattle.demosaic.proofs.FillError.{Every, map-same}
 

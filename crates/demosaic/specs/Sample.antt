@@ -1,6 +1,6 @@
 -- The samples of the three planes at a pixel of a frame, by the whole-number rules. K is the share scale, ws the weights of the five differences. Assumes nothing.
 use Prim.Native.Nat.{ℕ, _*_}
-use mathlib.Core.Bool.{Bool, cond}
+use mathlib.Core.Bool.{cond}
 use mathlib.Core.List.{List, [], _∷_, map}
 use lib.IntN.{ℤ, pos, _+ℤ_, _-ℤ_}
 use Rattle.bayer.specs.declared.colour.Colour.{Colour}

@@ -1,5 +1,5 @@
 -- The sharp error of green at every place of a continued mosaic whose readings are at most 4095: 1/2 + 393120 / K. Assumes nothing.
-use mathlib.Core.Path.{_≡_, refl}
+use mathlib.Core.Path.{refl}
 use mathlib.Core.List.{List, [], _∷_}
 use mathlib.Core.Bool.{Bool, true, false, cond}
 use Prim.Native.Nat.{ℕ, _+_, _*_, _≤_, _<_}
@@ -8,7 +8,6 @@ use lib.IntN.{ℤ, pos, natAbs, subℕ, _+ℤ_, _-ℤ_}
 use Rattle.whole.specs.Fraction.{Fraction, ratio, natural, Within, Same}
 use Rattle.whole.proofs.Distance.{is-quotient}
 use Rattle.whole.proofs.FractionLaws.{within-same, within-wider}
-use Rattle.gbtf.specs.Difference.{Readings}
 use Rattle.gbtf.specs.Direction.{directionSum, total}
 use Rattle.gbtf.specs.Mosaic.{Mosaic}
 use Rattle.gbtf.specs.GreenAt.{differenceAlong, isGreen, DH, DV, GH, GV, window, east, west, north, south, greenAt, exactGreenAt}

@@ -1,13 +1,12 @@
 -- The error of green against exact green: at most 1/2 + 8 G n / K for 1 + n directions whose five-sums are within T G. Assumes nothing.
-use mathlib.Core.Path.{_≡_, refl, sym, _∙_, ap}
+use mathlib.Core.Path.{_≡_, refl, sym, ap}
 use mathlib.Core.List.{List, [], _∷_}
-use Prim.Native.Nat.{ℕ, zero, suc, _+_, _*_, _-_, _≤_, _<_}
+use Prim.Native.Nat.{ℕ, suc, _+_, _*_, _-_, _≤_, _<_}
 use native.Mathlib.Nat.{mul-pos, mul-le-mul-left, mul-le-mul}
 use native.Mathlib.Omega.{arith}
 use lib.IntN.{ℤ, pos, negsuc, natAbs, _+ℤ_, _*ℤ_}
 use lib.ListN.{length}
 use Rattle.whole.specs.Parts.{up, down}
-use Rattle.whole.specs.Floor.{floorDiv}
 use Rattle.whole.specs.Clamp.{clamp}
 use Rattle.whole.specs.Fraction.{Fraction, integer, natural, _+ᶠ_, times, dividedBy, quotient, clampᶠ, Same, Within}
 use Rattle.whole.proofs.Pairs.{+ℤ-up, up-times, down-times}
@@ -17,7 +16,7 @@ use Rattle.gbtf.specs.declared.direction.Direction.{Direction}
 use Rattle.gbtf.specs.Direction.{t}
 use Rattle.gbtf.specs.Fusion.{smallest, share, shares, sharedDifferences, fusion, green}
 use Rattle.gbtf.specs.Exact.{sumOfA/t², sumOf1/t², sumOf1-minus, above0, exactGreen}
-use Rattle.gbtf.proofs.Mean.{Each, each, square, prod, mixed, shared, loose, one, means, attained, loose-less, shares-least, prod-pos}
+use Rattle.gbtf.proofs.Mean.{Each, each, square, prod, mixed, shared, loose, one, means, attained, loose-less, shares-least}
 
 a⁺ : Direction → ℕ
 a⁺ d = up (d .differences)

@@ -1,14 +1,14 @@
 -- Green, and exact green, of a row that is at most one row away from row i depend on rows i − 7 to i + 7 of the continued mosaic only:
 -- two mosaics that agree on these rows have the same. Assumes nothing.
-use mathlib.Core.Path.{_≡_, refl, ap, ap₂}
+use mathlib.Core.Path.{_≡_, ap, ap₂}
 use mathlib.Core.List.{List, [], _∷_}
 use mathlib.Core.Bool.{cond}
 use Prim.Native.Nat.{ℕ, _+_, _*_, _≤_, _<_}
 use native.Mathlib.Omega.{arith}
 use lib.Dec.{lit≤}
-use lib.IntN.{ℤ, pos, _+ℤ_, _-ℤ_, _*ℤ_}
+use lib.IntN.{ℤ, pos, _+ℤ_, _-ℤ_}
 use Rattle.whole.specs.Parts.{up, down}
-use Rattle.whole.specs.Fraction.{Fraction, natural}
+use Rattle.whole.specs.Fraction.{natural}
 use Rattle.whole.proofs.Pairs.{+ℤ-up, -ℤ-up}
 use Rattle.bayer.specs.declared.colour.Colour.{Colour}
 use Rattle.gbtf.specs.Difference.{difference, gradient}

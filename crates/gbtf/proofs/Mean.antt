@@ -1,7 +1,7 @@
 -- The distance of N/S, the mean by floored shares, from E/P, the mean by 1/t². Induction over the directions, for any number of them. Assumes nothing.
 use mathlib.Core.Path.{_≡_, refl, sym, _∙_, ap}
 use mathlib.Core.List.{List, [], _∷_}
-use Prim.Native.Nat.{ℕ, zero, suc, _+_, _*_, _-_, _/_, _%_, _≤_, _<_, min}
+use Prim.Native.Nat.{ℕ, suc, _+_, _*_, _-_, _/_, _%_, _≤_, _<_, min}
 use native.Mathlib.Nat.{mul-pos, mul-le-mul-left, mul-le-mul, le-of-mul-le-mul-left, div-add-mod', mod-lt, mul-mod-left, mul-div-cancel}
 use native.Mathlib.Decide.{decLe}
 use native.Mathlib.Omega.{arith}

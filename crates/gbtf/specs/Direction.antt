@@ -1,6 +1,6 @@
 -- What green takes from one direction: its direction sum, guarded, and its five-sum. Assumes nothing.
 use Prim.Native.Nat.{ℕ, _+_, _*_, max}
-use mathlib.Core.List.{List, [], _∷_}
+use mathlib.Core.List.{List, []}
 use lib.IntN.{ℤ, pos, _+ℤ_, _*ℤ_}
 use lib.ListN.{getD}
 use Rattle.gbtf.specs.declared.direction.Direction.{Direction}

@@ -1,13 +1,10 @@
 -- `whole::clamp` meets its contract: by the sign of x, and by the test against the top. Assumes nothing.
-use Prim.Native.Nat.{ℕ, _≤_, _<_, min}
+use Prim.Native.Nat.{_≤_, _<_}
 use native.Mathlib.Omega.{arith}
-use mathlib.Core.Path.{_≡_, _∙_, sym, ap}
-use borrow.Author.Needs.{needs, sfits-of}
+use mathlib.Core.Path.{_≡_, sym, ap}
 use borrow.Author.Tests.{ltb-true, ltb-false}
-use lib.IntN.{ℤ, pos, negsuc, natAbs}
-use lib.Signed.{mag, ltZ}
-use mir.Syntax.{w64}
-use mir.Val.{toZ, ofZ}
+use lib.IntN.{pos, natAbs}
+use lib.Signed.{mag}
 use Rattle.whole.specs.Clamp.{clamp}
 use Rattle.whole.proofs.Signed.{is-neg, is-nonneg, read-nonneg, to-unsigned}
 use Rattle.whole.proofs.clamp.Statement.{statement}

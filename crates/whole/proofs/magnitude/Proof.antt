@@ -1,6 +1,6 @@
 -- `whole::magnitude` meets its contract: by the sign of x. Assumes nothing.
 use native.Mathlib.Omega.{arith}
-use mathlib.Core.Path.{_≡_, _∙_, sym, ap}
+use mathlib.Core.Path.{_≡_, ap}
 use borrow.Author.Needs.{needs, sfits-of}
 use lib.IntN.{pos, negsuc, _-ℤ_, natAbs}
 use lib.Signed.{mag}

@@ -1,7 +1,7 @@
 -- `whole::quotient` meets its contract: n / 0 is 0. Assumes nothing.
 use Prim.Native.Nat.{_/_}
 use native.Mathlib.Nat.{div-zero}
-use mathlib.Core.Path.{_≡_, _∙_, sym, ap}
+use mathlib.Core.Path.{_∙_, sym, ap}
 use borrow.Author.Needs.{needs}
 use Rattle.whole.proofs.quotient.Statement.{statement}
 use Rattle.whole.proofs.quotient.Tie as tie

@@ -1,6 +1,5 @@
 -- `gbtf::difference::minus` meets its contract. Assumes nothing.
 use native.Mathlib.Omega.{arith}
-use lib.IntN.{pos}
 use mir.Syntax.{w32}
 use Rattle.whole.proofs.Pairs.{natₚ, _-ₚ_, differs}
 use Rattle.whole.proofs.Signed.{E, nat, _⊖_, asked, value}

@@ -1,11 +1,10 @@
 -- `gbtf::fusion::share` meets its contract: no product in it is above k t². Assumes nothing.
 use Prim.Native.Nat.{ℕ, _*_, _≤_, _<_}
-use native.Mathlib.Nat.{le-trans, lt-of-le-of-lt, mul-le-mul, mul-le-mul-left, mul-pos}
+use native.Mathlib.Nat.{lt-of-le-of-lt, mul-le-mul, mul-le-mul-left, mul-pos}
 use native.Mathlib.Omega.{arith}
 use mathlib.Core.Path.{refl}
 use mir.Syntax.{w64}
 use mir.Val.{Fits}
-use borrow.Author.Needs.{needs}
 use Rattle.gbtf.proofs.fusion.share.Statement.{statement}
 use Rattle.gbtf.proofs.fusion.share.Tie as tie
 
