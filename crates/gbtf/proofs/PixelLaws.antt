@@ -1,8 +1,8 @@
 -- Bounds on the numbers of one pixel, and document 01's own forms of the sums. Assumes nothing.
-use mathlib.Core.Path.{_≡_, refl}
+use mathlib.Core.Path.{_≡_}
 use mathlib.Core.Bool.{Bool, true, false}
 use mathlib.Core.List.{List, [], _∷_}
-use Prim.Native.Nat.{ℕ, _+_, _*_, _^_, _≤_, _<_}
+use Prim.Native.Nat.{ℕ, _*_, _^_, _≤_, _<_}
 use native.Mathlib.Nat.{le-refl, le-trans, lt-of-le-of-lt, mul-le-mul, mul-le-mul-left, mul-pos, div-le-of-le-mul, mul-div-cancel}
 use native.Mathlib.Omega.{arith}
 use lib.Dec.{lit<}
@@ -14,8 +14,9 @@ use Rattle.whole.proofs.Pairs.{Pair, anyₚ, natₚ, _+ₚ_, _-ₚ_, negₚ, _*
 use Rattle.whole.proofs.FloorLaws.{floor-within}
 use Rattle.whole.proofs.Magnitudes.{sub-within}
 use Rattle.whole.proofs.Signed.{E, lit, nat, int, _⊕_, _⊗_, within}
+use Rattle.gbtf.specs.declared.direction.Direction.{Direction}
 use Rattle.gbtf.specs.Difference.{difference, gradient, Readings}
-use Rattle.gbtf.specs.Direction.{directionSum, fiveSum, total, direction, t}
+use Rattle.gbtf.specs.Direction.{directionSum, fiveSum, total, t}
 use Rattle.gbtf.specs.Fusion.{share, fusion, Fitting}
 
 -- ---- differences and gradients
@@ -68,12 +69,12 @@ pub fusion-within : (N : ℤ) {S T : ℕ} → natAbs N ≤ 1125899906842624 → 
 unfolding fusion
 fusion-within N {S} {T} h g k = le-trans (floor-within (pos 8 *ℤ N +ℤ pos (T * S)) (2 * (T * S))) (within {w = w64} (lit 8 ⊗ int N 1125899906842624 h ⊕ nat (T * S) 68719476736 (mul-le-mul g k)))
 
--- ---- 64 bits: gradients to 294840 at shares to 2^27, and to 884520 at shares to 2^24
-fitting-to : (K B : ℕ) {A : ℤ} {s : ℕ} → natAbs A ≤ 2097152 → s ≤ B → 4 ≤ B → K * (B * B) < 18446744073709551616 → Fitting K (direction A s)
-fitting-to K B {A} {s} h g b l = let m : t (direction A s) ≤ B = omega arith in record { sum = h; square = lt-of-le-of-lt (mul-le-mul-left K (mul-le-mul m m)) l }
+-- ---- 64 bits, at the share scales 2^27 and 2^24
+fitting-to : (K B : ℕ) (d : Direction) → natAbs (d .differences) ≤ 2097152 → d .gradients ≤ B → 4 ≤ B → K * (B * B) < 18446744073709551616 → Fitting K d
+fitting-to K B d h g b l = let m : t d ≤ B = omega arith in record { sum = h; square = lt-of-le-of-lt (mul-le-mul-left K (mul-le-mul m m)) l }
 
-pub fitting : (A : ℤ) {s : ℕ} → natAbs A ≤ 81900 → s ≤ 294840 → Fitting (2 ^ 27) (direction A s)
-fitting A h g = fitting-to (2 ^ 27) 294840 (omega arith) g (omega arith) (lit< tt)
+pub fitting : (d : Direction) → natAbs (d .differences) ≤ 81900 → d .gradients ≤ 294840 → Fitting (2 ^ 27) d
+fitting d h g = fitting-to (2 ^ 27) 294840 d (omega arith) g (omega arith) (lit< tt)
 
-pub fitting-24 : (A : ℤ) {s : ℕ} → natAbs A ≤ 1638000 → s ≤ 884520 → Fitting (2 ^ 24) (direction A s)
-fitting-24 A h g = fitting-to (2 ^ 24) 884520 (omega arith) g (omega arith) (lit< tt)
+pub fitting-24 : (d : Direction) → natAbs (d .differences) ≤ 1638000 → d .gradients ≤ 884520 → Fitting (2 ^ 24) d
+fitting-24 d h g = fitting-to (2 ^ 24) 884520 d (omega arith) g (omega arith) (lit< tt)

@@ -4,7 +4,7 @@ ghost use lib.IntN.{natAbs};
 ghost use Rattle.whole.specs.Parts.{up, down};
 ghost use Rattle.gbtf.specs.Difference.{difference, gradient, Readings};
 
-// a - b.
+// a - b, by its parts above and below zero.
 fn minus(a: u32, b: u32) -> i32
     requires { ⌜ (a ≤ 262140) × (b ≤ 262140) ⌝ }
     ensures { λ d. ⌜ up d + b ≡ down d + a ⌝ }

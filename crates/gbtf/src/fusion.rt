@@ -86,6 +86,6 @@ pub fn green(
     let w = share_of(k, m, west);
     let n = share_of(k, m, north);
     let s = share_of(k, m, south);
-    let a = shared(e, east) + shared(w, west) + shared(n, north) + shared(s, south);
+    let a = shared(e, east) + shared(w, west) + (shared(n, north) + shared(s, south));
     whole::clamp((16 * (c as u64)) as i64 + fusion(a, e + w + n + s, t))
 }

@@ -165,3 +165,7 @@ up-times n (negsuc a) = up-neg (n * suc a) ∙ omega arith
 pub down-times : (n : ℕ) (z : ℤ) → down (pos n *ℤ z) ≡ n * down z
 down-times n (pos a) = omega arith
 down-times n (negsuc a) = down-neg (n * suc a)
+
+-- two and two, against the definitions' order
+pub four-terms : (a b c d : ℤ) → a +ℤ b +ℤ (c +ℤ d) ≡ a +ℤ (b +ℤ (c +ℤ (d +ℤ pos 0)))
+four-terms a b c d = eq-by (anyₚ a +ₚ anyₚ b +ₚ (anyₚ c +ₚ anyₚ d)) (anyₚ a +ₚ (anyₚ b +ₚ (anyₚ c +ₚ (anyₚ d +ₚ natₚ 0)))) (omega arith)

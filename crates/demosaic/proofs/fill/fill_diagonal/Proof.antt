@@ -1,11 +1,11 @@
 -- `demosaic::fill::fill_diagonal` meets its contract: it adds up in another order than the definition. Assumes nothing.
 use native.Mathlib.Omega.{arith}
-use mathlib.Core.Path.{_≡_, _∙_, ap₂}
-use lib.IntN.{ℤ, pos, _+ℤ_}
+use mathlib.Core.Path.{_∙_, ap₂}
+use lib.IntN.{_+ℤ_}
 use mir.Syntax.{w64}
-use Rattle.whole.proofs.Pairs.{anyₚ, natₚ, _+ₚ_, eq-by}
 use Rattle.whole.proofs.Signed.{E, int, _⊕_, asked, value}
 use Rattle.whole.proofs.Signed.{bounded}
+use Rattle.whole.proofs.Pairs.{four-terms}
 use Rattle.demosaic.proofs.FillLaws.{shift-fills, passed-sum}
 use borrow.Author.Needs.{needs}
 use Rattle.demosaic.proofs.fill.fill_diagonal.Statement.{statement}
@@ -13,9 +13,6 @@ use Rattle.demosaic.proofs.fill.fill_diagonal.Tie as tie
 
 abbrev sum : tie.After-plus2 → E w64
 sum c = int (c .before .plus .result) 4294967296 (c .before .plus .ensures .1) ⊕ int (c .plus2 .result) 4294967296 (c .plus2 .ensures .1)
-
-regroup : (a b c d : ℤ) → a +ℤ b +ℤ (c +ℤ d) ≡ a +ℤ (b +ℤ (c +ℤ (d +ℤ pos 0)))
-regroup a b c d = eq-by (anyₚ a +ₚ anyₚ b +ₚ (anyₚ c +ₚ anyₚ d)) (anyₚ a +ₚ (anyₚ b +ₚ (anyₚ c +ₚ (anyₚ d +ₚ natₚ 0)))) (omega arith)
 
 mul-lifted : tie.Need-mul-lifted
 mul-lifted c = search needs
@@ -44,7 +41,7 @@ returns c =
     ∙ shift-fills 2 (s .args .g) _ _
     (value (sum p) tt
     ∙ ap₂ (λ u v. u +ℤ v) (passed-sum (s .args .nw) (s .args .ne) (p .before .plus .ensures .0) (s .fits .nw) (s .fits .ne)) (passed-sum (s .args .sw) (s .args .se) (p .plus2 .ensures .0) (s .fits .sw) (s .fits .se))
-    ∙ regroup (s .args .nw) (s .args .ne) (s .args .sw) (s .args .se))
+    ∙ four-terms (s .args .nw) (s .args .ne) (s .args .sw) (s .args .se))
     (l .lifted .ensures) (omega arith) (omega arith)
 
 pub fill-diagonal-spec : {M : Type 1} → statement M

@@ -1,9 +1,8 @@
 -- `demosaic::fill::fill_pair` meets its contract. Assumes nothing.
 use native.Mathlib.Omega.{arith}
-use mathlib.Core.Path.{_≡_, _∙_}
-use lib.IntN.{ℤ, pos, _+ℤ_}
+use mathlib.Core.Path.{_∙_, sym, ap}
+use lib.IntN.{_+ℤ_, +ℤ-idr}
 use mir.Syntax.{w64}
-use Rattle.whole.proofs.Pairs.{anyₚ, natₚ, _+ₚ_, eq-by}
 use Rattle.whole.proofs.Signed.{E, int, value}
 use Rattle.whole.proofs.Signed.{bounded}
 use Rattle.demosaic.proofs.FillLaws.{shift-fills, passed-sum}
@@ -13,9 +12,6 @@ use Rattle.demosaic.proofs.fill.fill_pair.Tie as tie
 
 abbrev sum : tie.After-plus → E w64
 sum c = int (c .plus .result) 4294967296 (c .plus .ensures .1)
-
-zero : (a b : ℤ) → a +ℤ b ≡ a +ℤ (b +ℤ pos 0)
-zero a b = eq-by (anyₚ a +ₚ anyₚ b) (anyₚ a +ₚ (anyₚ b +ₚ natₚ 0)) (omega arith)
 
 mul-lifted : tie.Need-mul-lifted
 mul-lifted c = search needs
@@ -36,7 +32,7 @@ returns c =
     let s = p .before in
     c .clamp .ensures
     ∙ shift-fills 1 (s .args .g) _ _
-    (value (sum p) tt ∙ passed-sum (s .args .before) (s .args .after) (p .plus .ensures .0) (s .fits .before) (s .fits .after) ∙ zero (s .args .before) (s .args .after))
+    (value (sum p) tt ∙ passed-sum (s .args .before) (s .args .after) (p .plus .ensures .0) (s .fits .before) (s .fits .after) ∙ ap (λ u. s .args .before +ℤ u) (sym (+ℤ-idr (s .args .after))))
     (l .lifted .ensures) (omega arith) (omega arith)
 
 pub fill-pair-spec : {M : Type 1} → statement M

@@ -1,4 +1,4 @@
--- `gbtf::difference::difference` meets its contract: what it subtracts are the parts of the difference above and below zero. Assumes nothing.
+-- `gbtf::difference::difference` meets its contract: the sums that it subtracts differ by the difference. Assumes nothing.
 use native.Mathlib.Nat.{le-trans, le-of-eq}
 use native.Mathlib.Omega.{arith}
 use mathlib.Core.Bool.{true, false}

@@ -7,12 +7,12 @@ use mathlib.Core.Path.{_≡_, _∙_, ap, ap₂}
 use lib.IntN.{ℤ, pos, natAbs, _+ℤ_, _*ℤ_}
 use mir.Syntax.{w64}
 use Rattle.whole.specs.Clamp.{clamp}
-use Rattle.whole.proofs.Pairs.{anyₚ, natₚ, _+ₚ_, eq-by}
 use Rattle.whole.proofs.Signed.{E, nat, int, _⊕_, asked, value}
 use Rattle.gbtf.specs.declared.direction.Direction.{Direction}
 use Rattle.gbtf.specs.Direction.{t}
 use Rattle.gbtf.specs.Fusion.{smallest, share, fusion, green}
 use Rattle.whole.proofs.Signed.{bounded}
+use Rattle.whole.proofs.Pairs.{four-terms}
 use Rattle.gbtf.proofs.PixelLaws.{fusion-within}
 use borrow.Author.Needs.{needs}
 use Rattle.gbtf.proofs.fusion.green.Statement.{statement}
@@ -27,26 +27,23 @@ below c = least _ _ _ _ (c .smallest .ensures)
 abbrev two : tie.After-shared2 → E w64
 two c = int (c .before .shared .result) 281474976710656 (c .before .shared .ensures .1) ⊕ int (c .shared2 .result) 281474976710656 (c .shared2 .ensures .1)
 
-abbrev three : tie.After-shared3 → E w64
-three c = two (c .before) ⊕ int (c .shared3 .result) 281474976710656 (c .shared3 .ensures .1)
+abbrev others : tie.After-shared4 → E w64
+others c = int (c .before .shared3 .result) 281474976710656 (c .before .shared3 .ensures .1) ⊕ int (c .shared4 .result) 281474976710656 (c .shared4 .ensures .1)
 
 abbrev four : tie.After-shared4 → E w64
-four c = three (c .before) ⊕ int (c .shared4 .result) 281474976710656 (c .shared4 .ensures .1)
+four c = two (c .before .before) ⊕ others c
 
 abbrev units : tie.After-fusion → E w64
 units c = nat (16 * c .before .before .before .before .before .before .before .before .before .before .args .c) 1048560 (omega arith)
     ⊕ int (c .fusion .result) 9007267974217728 (le-trans (le-of-eq (ap natAbs (c .fusion .ensures))) (fusion-within _ (bounded (four (c .before)) tt) (omega arith) (omega arith)))
 
-regroup : (a b c d : ℤ) → a +ℤ b +ℤ c +ℤ d ≡ a +ℤ (b +ℤ (c +ℤ (d +ℤ pos 0)))
-regroup a b c d = eq-by (anyₚ a +ₚ anyₚ b +ₚ anyₚ c +ₚ anyₚ d) (anyₚ a +ₚ (anyₚ b +ₚ (anyₚ c +ₚ (anyₚ d +ₚ natₚ 0)))) (omega arith)
-
 green-is : (K T c : ℕ) (d₁ d₂ d₃ d₄ : Direction) {m q₁ q₂ q₃ q₄ : ℕ} {r₁ r₂ r₃ r₄ : ℤ}
     → m ≡ smallest d₁ (d₂ ∷ d₃ ∷ d₄ ∷ [])
     → q₁ ≡ share K m (t d₁) → q₂ ≡ share K m (t d₂) → q₃ ≡ share K m (t d₃) → q₄ ≡ share K m (t d₄)
     → r₁ ≡ pos q₁ *ℤ d₁ .differences → r₂ ≡ pos q₂ *ℤ d₂ .differences → r₃ ≡ pos q₃ *ℤ d₃ .differences → r₄ ≡ pos q₄ *ℤ d₄ .differences
-    → clamp (pos (16 * c) +ℤ fusion (r₁ +ℤ r₂ +ℤ r₃ +ℤ r₄) (q₁ + q₂ + q₃ + q₄) T) ≡ green K T c d₁ (d₂ ∷ d₃ ∷ d₄ ∷ [])
+    → clamp (pos (16 * c) +ℤ fusion (r₁ +ℤ r₂ +ℤ (r₃ +ℤ r₄)) (q₁ + q₂ + q₃ + q₄) T) ≡ green K T c d₁ (d₂ ∷ d₃ ∷ d₄ ∷ [])
 unfolding green
-green-is K T c d₁ d₂ d₃ d₄ m p q r s e f g h = rw (h, g, f, e, s, r, q, p, m) (ap₂ (λ x y. clamp (pos (16 * c) +ℤ fusion x y T)) (regroup (x d₁) (x d₂) (x d₃) (x d₄)) (omega arith))
+green-is K T c d₁ d₂ d₃ d₄ m p q r s e f g h = rw (h, g, f, e, s, r, q, p, m) (ap₂ (λ x y. clamp (pos (16 * c) +ℤ fusion x y T)) (four-terms (x d₁) (x d₂) (x d₃) (x d₄)) (omega arith))
   where
     x : Direction → ℤ
     x d = pos (share K (smallest d₁ (d₂ ∷ d₃ ∷ d₄ ∷ [])) (t d)) *ℤ d .differences
@@ -78,11 +75,11 @@ add-a c = asked (two c) tt
 shared-requires-3 : tie.Need-shared-requires-3
 shared-requires-3 c κs = search needs
 
-add-a-2 : tie.Need-add-a-2
-add-a-2 c = asked (three c) tt
-
 shared-requires-4 : tie.Need-shared-requires-4
 shared-requires-4 c κs = search needs
+
+add-a-2 : tie.Need-add-a-2
+add-a-2 c = asked (others c) tt
 
 add-a-3 : tie.Need-add-a-3
 add-a-3 c = asked (four c) tt
@@ -143,8 +140,8 @@ green-spec =
     shared-requires-2
     add-a
     shared-requires-3
-    add-a-2
     shared-requires-4
+    add-a-2
     add-a-3
     mul-clamp
     cast-clamp
