@@ -4,17 +4,17 @@ use mathlib.Core.Path.{_≡_, refl}
 use mathlib.Core.Bool.{Bool, true, false, cond, _||_, true≢false}
 use mathlib.Core.List.{List, [], _∷_, _++_}
 use native.Mathlib.Omega.{arith}
-use Rattle.bayer.specs.Refusal.{Refusal, offSize, unknownLayout, offFrame, shortHalo, planeMisfit, overRange, noSuchRow, tornFile, number, Case, firstOf}
+use Rattle.bayer.specs.Refusal.{Refusal, sizeOutOfRange, unknownLayout, rowsOutsideFrame, wrongPieceLength, wrongPlaneLength, readingOutOfRange, rowMissing, malformedFile, number, Case, firstOf}
 
 pub number-positive : (r : Refusal) → 0 < number r
-number-positive offSize = omega arith
+number-positive sizeOutOfRange = omega arith
 number-positive unknownLayout = omega arith
-number-positive offFrame = omega arith
-number-positive shortHalo = omega arith
-number-positive planeMisfit = omega arith
-number-positive overRange = omega arith
-number-positive noSuchRow = omega arith
-number-positive tornFile = omega arith
+number-positive rowsOutsideFrame = omega arith
+number-positive wrongPieceLength = omega arith
+number-positive wrongPlaneLength = omega arith
+number-positive readingOutOfRange = omega arith
+number-positive rowMissing = omega arith
+number-positive malformedFile = omega arith
 
 -- no condition holds
 abbrev pub Off : List Case → Type 0

@@ -4,17 +4,26 @@ use mathlib.Core.Bool.{Bool, cond}
 use mathlib.Core.List.{List, [], _∷_}
 
 pub data Refusal : Type 0 where
-  offSize unknownLayout offFrame shortHalo planeMisfit overRange noSuchRow tornFile : Refusal
+  sizeOutOfRange unknownLayout rowsOutsideFrame wrongPieceLength wrongPlaneLength readingOutOfRange rowMissing malformedFile : Refusal
 
+-- document 01's number, and its word
 abbrev pub number : Refusal → ℕ
-number offSize = 1
+-- "off size"
+number sizeOutOfRange = 1
+-- "unknown layout"
 number unknownLayout = 2
-number offFrame = 3
-number shortHalo = 4
-number planeMisfit = 5
-number overRange = 6
-number noSuchRow = 7
-number tornFile = 8
+-- "off the frame"
+number rowsOutsideFrame = 3
+-- "short halo"
+number wrongPieceLength = 4
+-- "plane misfit"
+number wrongPlaneLength = 5
+-- "over range"
+number readingOutOfRange = 6
+-- "no such row"
+number rowMissing = 7
+-- "torn file"
+number malformedFile = 8
 
 -- a refusal, and whether its condition holds
 pub record Case : Type 0 where

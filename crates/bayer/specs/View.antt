@@ -7,7 +7,7 @@ use lib.ListN.{take, drop}
 use Rattle.bayer.specs.declared.colour.Colour.{Colour}
 use Rattle.bayer.specs.declared.colour.Colour.the-variants.{Red, Green, Blue}
 use Rattle.bayer.specs.declared.frame.Frame.{Frame}
-use Rattle.bayer.specs.Refusal.{_when_, offSize, unknownLayout, noSuchRow, firstOf}
+use Rattle.bayer.specs.Refusal.{_when_, sizeOutOfRange, unknownLayout, rowMissing, firstOf}
 use Rattle.bayer.specs.Condition.{outsideSizes, unknown, lacksRow}
 
 -- row i of a plane or a mosaic that is w wide: w samples from the (i w)th on
@@ -16,15 +16,15 @@ rowOf w i plane = take w (drop (i * w) plane)
 
 -- a row view knows W only: 1 on W, then 7
 unfoldable pub rowViewNumber : (length w i : ℕ) → ℕ
-rowViewNumber length w i = firstOf ((offSize when outsideSizes w) ∷ (noSuchRow when lacksRow length w i) ∷ [])
+rowViewNumber length w i = firstOf ((sizeOutOfRange when outsideSizes w) ∷ (rowMissing when lacksRow length w i) ∷ [])
 
 -- a partner view: 1, 2, then 7, also for a row from H on; either plane may lack the row
 unfoldable pub partnerViewNumber : (red blue : ℕ) → Frame → (i : ℕ) → ℕ
 partnerViewNumber red blue f i =
     firstOf
-    ((offSize when (outsideSizes (f .width) || outsideSizes (f .height)))
+    ((sizeOutOfRange when (outsideSizes (f .width) || outsideSizes (f .height)))
     ∷ (unknownLayout when unknown (f .layout))
-    ∷ (noSuchRow when (leb (f .height) i || (lacksRow red (f .width) i || lacksRow blue (f .width) i)))
+    ∷ (rowMissing when (leb (f .height) i || (lacksRow red (f .width) i || lacksRow blue (f .width) i)))
     ∷ [])
 
 -- what a view of this number shows: the part, or the empty part where it is refused

@@ -7,8 +7,8 @@ ghost use Rattle.bayer.specs.View.{rowOf, rowViewNumber, partnerViewNumb
 use crate::colour::Colour;
 use crate::colour::partner;
 use crate::frame::Frame;
-use crate::refusal::NO_SUCH_ROW;
-use crate::refusal::OFF_SIZE;
+use crate::refusal::ROW_MISSING;
+use crate::refusal::SIZE_OUT_OF_RANGE;
 use crate::refusal::UNKNOWN_LAYOUT;
 
 // Whether a width or a height is outside 8 to 4096.
@@ -36,10 +36,10 @@ pub fn row_view_check(plane: &[u16], w: usize, row: usize) -> u32
     ensures { λ r. ⌜ r ≡ rowViewNumber (length (now (plane .entry))) w row ⌝ }
 {
     if outside_sizes(w) {
-        return OFF_SIZE;
+        return SIZE_OUT_OF_RANGE;
     }
     if lacks_row(plane.len(), w, row) {
-        return NO_SUCH_ROW;
+        return ROW_MISSING;
     }
     0
 }
@@ -72,22 +72,22 @@ pub fn partner_view_check(red: &[u16], blue: &[u16], frame: Frame, row: usize) -
     ensures { λ r. ⌜ r ≡ partnerViewNumber (length (now (red .entry))) (length (now (blue .entry))) frame row ⌝ }
 {
     if outside_sizes(frame.width) {
-        return OFF_SIZE;
+        return SIZE_OUT_OF_RANGE;
     }
     if outside_sizes(frame.height) {
-        return OFF_SIZE;
+        return SIZE_OUT_OF_RANGE;
     }
     if 3 < frame.layout {
         return UNKNOWN_LAYOUT;
     }
     if frame.height <= row {
-        return NO_SUCH_ROW;
+        return ROW_MISSING;
     }
     if lacks_row(red.len(), frame.width, row) {
-        return NO_SUCH_ROW;
+        return ROW_MISSING;
     }
     if lacks_row(blue.len(), frame.width, row) {
-        return NO_SUCH_ROW;
+        return ROW_MISSING;
     }
     0
 }

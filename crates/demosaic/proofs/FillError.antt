@@ -1,5 +1,5 @@
 -- The error of a fill against its exact form, from that of the greens: 1/2 more than the own green's and the neighbours' together. Assumes nothing.
-use mathlib.Core.Path.{_≡_, refl, ap₂}
+use mathlib.Core.Path.{_≡_, refl, ap, ap₂}
 use mathlib.Core.List.{List, [], _∷_, map}
 use Prim.Native.Nat.{ℕ, suc, _+_, _*_, _≤_, _<_}
 use native.Mathlib.Nat.{zero-lt-suc}
@@ -13,8 +13,9 @@ use Rattle.whole.specs.Fraction.{Fraction, integer, natural, _+ᶠ_, _-ᶠ_, di
 use Rattle.whole.proofs.Pairs.{+ℤ-up, -ℤ-up}
 use Rattle.whole.proofs.FloorLaws.{floor-low, floor-high}
 use Rattle.whole.proofs.FractionLaws.{within-trans, within-add, within-sub, within-part, within-clamp, within-same, within-wider, within-from, within-to, within-less, within-eq, clamp-is}
-use Rattle.demosaic.specs.Fill.{excess, sumOf, fill}
-use Rattle.demosaic.specs.Exact.{exactExcess, sumOfFractions, mean, exactFill}
+use Rattle.demosaic.specs.Fill.{colourDifference, sumOf, fill}
+use Rattle.demosaic.proofs.FillLaws.{fill-even}
+use Rattle.demosaic.specs.Exact.{exactDifference, sumOfFractions, mean, exactFill}
 
 -- every neighbour has Q
 abbrev pub Every : {P : Type 0} → (P → Type 0) → List P → Type 0
@@ -54,41 +55,47 @@ round-near own h p s = record { low = round-low _ _ _ _ (up s) (down s) h own (f
 
 -- P is the type of the pixels; g, G and r give a pixel's green, its exact green and its reading
 module _ {P : Type 0} (g r : P → ℕ) (G : P → Fraction) where
-  abbrev excesses : List P → ℤ
-  excesses l = sumOf (map (λ p. excess (g p) (r p)) l)
+  abbrev colourDifferences : List P → List ℤ
+  colourDifferences l = map (λ p. colourDifference (g p) (r p)) l
 
-  abbrev exactExcesses : List P → List Fraction
-  exactExcesses l = map (λ p. exactExcess (G p) (r p)) l
+  abbrev exactDifferences : List P → List Fraction
+  exactDifferences l = map (λ p. exactDifference (G p) (r p)) l
 
-  excesses-near : (c b : ℕ) (l : List P) → Every (λ p. Within (natural (g p)) (G p) c b) l → Within (integer (excesses l)) (sumOfFractions (exactExcesses l)) (length (exactExcesses l) * c) b
-  excesses-near c b [] h = within-eq (omega arith) (within-same {x = natural 0} {y = natural 0} b refl)
-  excesses-near c b (p ∷ l) h =
-      within-eq {a = c + length (exactExcesses l) * c} (omega arith)
+  length-map : (l : List P) → length (exactDifferences l) ≡ length l
+  length-map [] = refl
+  length-map (p ∷ l) = ap suc (length-map l)
+
+  differences-near : (c b : ℕ) (l : List P) → Every (λ p. Within (natural (g p)) (G p) c b) l → Within (integer (sumOf (colourDifferences l))) (sumOfFractions (exactDifferences l)) (length (exactDifferences l) * c) b
+  differences-near c b [] h = within-eq (omega arith) (within-same {x = natural 0} {y = natural 0} b refl)
+  differences-near c b (p ∷ l) h =
+      within-eq {a = c + length (exactDifferences l) * c} (omega arith)
       (within-from (integer (e +ℤ s)) (integer e +ᶠ integer s) (two-is e s)
       (within-add {x = integer e} {u = integer s}
       (within-from (integer e) (natural (g p) -ᶠ natural (16 * r p)) (one-is (g p) (16 * r p)) (within-less (natural (16 * r p)) {x = natural (g p)} {y = G p} (h .0)))
-      (excesses-near c b l (h .1))))
+      (differences-near c b l (h .1))))
     where
       e : ℤ
-      e = excess (g p) (r p)
+      e = colourDifference (g p) (r p)
 
       s : ℤ
-      s = excesses l
+      s = sumOf (colourDifferences l)
 
-  -- own green within a/(2k), each neighbour's within c/(2k): the fill from neighbours q ∷ l is within 1/2 + a/(2k) + c/(2k)
-  pub fill-within : (own : ℕ) (Own : Fraction) (h k a c : ℕ) (q : P) (l : List P) → suc (length (exactExcesses l)) ≡ 2 * h
-      → Within (natural own) Own a (2 * k) → Every (λ p. Within (natural (g p)) (G p) c (2 * k)) (q ∷ l)
-      → Within (natural (fill h own (excesses (q ∷ l)))) (exactFill Own (exactExcesses (q ∷ l))) (k + (a + c)) (2 * k)
-  unfolding fill exactFill mean
-  fill-within own Own h k a c q l e ho hn =
-      within-from (natural (clamp F)) (clampᶠ (integer F)) (clamp-is F)
+  -- own green within a/(2k), each neighbour's within c/(2k): the fill from 2h neighbours is within 1/2 + a/(2k) + c/(2k)
+  pub fill-within : (own : ℕ) (Own : Fraction) (h k a c : ℕ) (l : List P) → 0 < h → length l ≡ 2 * h
+      → Within (natural own) Own a (2 * k) → Every (λ p. Within (natural (g p)) (G p) c (2 * k)) l
+      → Within (natural (fill (length l) own (sumOf (colourDifferences l)))) (exactFill Own (exactDifferences l)) (k + (a + c)) (2 * k)
+  unfolding exactFill mean
+  fill-within own Own h k a c [] p e ho hn = absurd (let z : ⊥ = omega arith in z)
+  fill-within own Own h k a c (q ∷ l) p e ho hn =
+      rw (e, fill-even h own s)
+      (within-from (natural (clamp F)) (clampᶠ (integer F)) (clamp-is F)
       (within-clamp
       (within-trans
-      (within-to X Y (within-wider k (2 * k) (omega arith) (omega arith) (round-near own h (omega arith) s)) (rw e))
-      (within-sub ho (within-part (suc (length (exactExcesses l))) (zero-lt-suc (length (exactExcesses l))) (excesses-near c (2 * k) (q ∷ l) hn)))))
+      (within-to X Y (within-wider k (2 * k) (omega arith) (omega arith) (round-near own h (omega arith) s)) (rw (length-map l, e)))
+      (within-sub ho (within-part (suc (length (exactDifferences l))) (zero-lt-suc (length (exactDifferences l))) (differences-near c (2 * k) (q ∷ l) hn))))))
     where
       s : ℤ
-      s = excesses (q ∷ l)
+      s = sumOf (colourDifferences (q ∷ l))
 
       F : ℤ
       F = floorDiv (pos (2 * h * own) -ℤ s +ℤ pos h) (2 * h)
@@ -97,4 +104,4 @@ module _ {P : Type 0} (g r : P → ℕ) (G : P → Fraction) where
       X = natural own -ᶠ dividedBy (integer s) (2 * h) (omega arith)
 
       Y : Fraction
-      Y = natural own -ᶠ dividedBy (integer s) (suc (length (exactExcesses l))) (zero-lt-suc (length (exactExcesses l)))
+      Y = natural own -ᶠ dividedBy (integer s) (suc (length (exactDifferences l))) (zero-lt-suc (length (exactDifferences l)))

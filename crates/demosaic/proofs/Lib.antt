@@ -1,5 +1,6 @@
 pub mod FillLaws
 pub mod FillError
+pub mod Neighbours
 pub mod SampleError
 pub mod SampleLocal
 pub mod FrameLocal

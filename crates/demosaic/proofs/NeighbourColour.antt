@@ -1,7 +1,7 @@
--- The neighbours from which `otherFrom` fills red or blue have that colour. Assumes nothing.
+-- The neighbours from which red or blue is filled have that colour. Assumes nothing.
 use mathlib.Core.Path.{_≡_, refl, sym, _∙_}
 use mathlib.Core.List.{List}
-use mathlib.Core.Bool.{true, false, cond}
+use mathlib.Core.Bool.{Bool, true, false, cond}
 use Prim.Native.Nat.{ℕ, _+_, _-_, _%_, _≤_, _<_}
 use native.Mathlib.Nat.{mod-mod}
 use native.Mathlib.Omega.{arith}
@@ -14,9 +14,9 @@ use Rattle.bayer.specs.Colour.{colours, colourAt, same}
 use Rattle.bayer.specs.Mirror.{mirror}
 use Rattle.bayer.proofs.MirrorLaws.{Reflected, mirror-inside, mirror-parity}
 use Rattle.bayer.proofs.ColourLaws.{parity-colour, table, agree}
-use Rattle.gbtf.specs.Mosaic.{Mosaic, continued}
+use Rattle.gbtf.specs.Mosaic.{continued}
 use Rattle.gbtf.specs.GreenAt.{isGreen}
-use Rattle.demosaic.specs.Sample.{Pixel, diagonal, inRow, inColumn}
+use Rattle.demosaic.specs.Sample.{Pixel, diagonal, inRow, inColumn, neighbours}
 use Rattle.demosaic.proofs.FillError.{Every}
 
 -- along an axis: what is read just before and just after a position has the other parity
@@ -62,19 +62,10 @@ source-is k n l i i′ j j′ h p q =
 abbrev pub Has : Frame → Colour → Pixel → Type 0
 Has f k p = colourAt (f .layout) (p .row) (p .col) ≡ k
 
--- at row i and column j, in each case in which `otherFrom` reads neighbours for colour k
-pub record NeighboursHave (f : Frame) (m : Mosaic) (k : Colour) (i j : ℤ) : Type 0 where
-  pub in-row : isGreen m i j ≡ true → same (m .colour i (j +ℤ pos 1)) k ≡ true → Every (Has f k) (inRow f i j)
-  pub in-column : isGreen m i j ≡ true → same (m .colour i (j +ℤ pos 1)) k ≡ false → Every (Has f k) (inColumn f i j)
-  pub on-diagonal : same (m .colour i j) k ≡ false → isGreen m i j ≡ false → Every (Has f k) (diagonal f i j)
-
-pub neighbours-have-colour : (f : Frame) → f .layout ≤ 3 → 2 ≤ f .height → 2 ≤ f .width → (first : ℕ) (rows : List ℕ) (k : Colour) → (k ≡ Green → ⊥) → (i j : ℕ) → i < f .height → j < f .width → NeighboursHave f (continued f first rows) k (pos i) (pos j)
-neighbours-have-colour f hl hH hW first rows k n i j hi hj =
-    record {
-      in-row = λ g r. let e = rw (g, r) at chosen in (left _ ∙ e, (e, tt));
-      in-column = λ g r. let e = rw (g, r) at chosen in (up _ ∙ e, (e, tt));
-      on-diagonal = λ d g. let e = rw (g, d) at chosen in (up _ ∙ left _ ∙ e, (up _ ∙ e, (left _ ∙ e, (e, tt))));
-    }
+pub neighbours-have-colour : (f : Frame) → f .layout ≤ 3 → 2 ≤ f .height → 2 ≤ f .width → (first : ℕ) (rows : List ℕ) (k : Colour) → (k ≡ Green → ⊥) → (i j : ℕ) → i < f .height → j < f .width
+    → same (continued f first rows .colour (pos i) (pos j)) k ≡ false → Every (Has f k) (neighbours f (continued f first rows) k (pos i) (pos j))
+unfolding neighbours
+neighbours-have-colour f hl hH hW first rows k n i j hi hj other = go (isGreen (continued f first rows) (pos i) (pos j)) (same (C (pos i) (pos j +ℤ pos 1)) k) refl refl
   where
     C : ℤ → ℤ → Colour
     C = continued f first rows .colour
@@ -87,3 +78,8 @@ neighbours-have-colour f hl hH hW first rows k n i j hi hj =
 
     left : (z : ℤ) → C z (pos j -ℤ pos 1) ≡ C z (pos j +ℤ pos 1)
     left z = parity-colour _ _ _ _ _ refl (before (f .width) j hW hj ∙ sym (after (f .width) j hW hj))
+
+    go : (g r : Bool) → isGreen (continued f first rows) (pos i) (pos j) ≡ g → same (C (pos i) (pos j +ℤ pos 1)) k ≡ r → Every (Has f k) (cond g (cond r (inRow f (pos i) (pos j)) (inColumn f (pos i) (pos j))) (diagonal f (pos i) (pos j)))
+    go true true g r = let e = rw (g, r) at chosen in (left _ ∙ e, (e, tt))
+    go true false g r = let e = rw (g, r) at chosen in (up _ ∙ e, (e, tt))
+    go false r g q = let e = rw (g, other) at chosen in (up _ ∙ left _ ∙ e, (up _ ∙ e, (left _ ∙ e, (e, tt))))

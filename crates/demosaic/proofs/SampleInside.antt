@@ -1,10 +1,11 @@
 -- At a pixel of the frame the fills read greens of the frame's own pixels only: greens that agree on these give the same samples. Assumes nothing.
-use mathlib.Core.Path.{_≡_, ap, ap₂}
-use mathlib.Core.List.{List, map}
+use mathlib.Core.Path.{_≡_, ap}
+use mathlib.Core.List.{map}
 use mathlib.Core.Bool.{cond}
 use Prim.Native.Nat.{ℕ, zero, suc, _+_, _*_, _-_, _≤_, _<_}
 use native.Mathlib.Omega.{arith}
 use lib.IntN.{ℤ, pos, negsuc, _+ℤ_, _-ℤ_}
+use lib.ListN.{length}
 use Rattle.whole.proofs.Pairs.{sub-pos}
 use Rattle.bayer.specs.declared.colour.Colour.{Colour}
 use Rattle.bayer.specs.declared.colour.Colour.the-variants.{Red, Green, Blue}
@@ -13,9 +14,9 @@ use Rattle.bayer.specs.Colour.{same}
 use Rattle.bayer.specs.Mirror.{mirror}
 use Rattle.bayer.proofs.MirrorLaws.{mirror-lt}
 use Rattle.gbtf.specs.Mosaic.{Mosaic}
-use Rattle.gbtf.specs.GreenAt.{isGreen}
-use Rattle.demosaic.specs.Fill.{excess, sumOf, fill}
-use Rattle.demosaic.specs.Sample.{Pixel, diagonal, inRow, inColumn, readingOf, excesses, otherFrom, sampleFrom}
+use Rattle.demosaic.specs.Fill.{colourDifference, sumOf, fill}
+use Rattle.demosaic.specs.Sample.{Pixel, readingOf, neighbours, otherFrom, sampleFrom}
+use Rattle.demosaic.proofs.Neighbours.{neighbours-cases}
 use Rattle.demosaic.proofs.FillError.{Every, map-same}
 
 -- along an axis: what is read just before, at and just after a position lies inside
@@ -37,18 +38,11 @@ module _ (f : Frame) (m : Mosaic) (hH : 2 ≤ f .height) (hW : 2 ≤ f .width) (
   abbrev Inside : Pixel → Type 0
   Inside p = (p .row < f .height) × (p .col < f .width)
 
-  fill-inside : (h : ℕ) (l : List Pixel) → Every Inside l → fill h (G (pos i) (pos j)) (excesses f m G l) ≡ fill h (F (pos i) (pos j)) (excesses f m F l)
-  fill-inside h l e = ap₂ (fill h) (greens i j hi hj) (ap sumOf (map-same _ _ (λ p b. ap (λ g. excess g (readingOf m p)) (greens (p .row) (p .col) (b .0) (b .1))) l e))
-
   otherFrom-inside : (k : Colour) → otherFrom f m G k (pos i) (pos j) ≡ otherFrom f m F k (pos i) (pos j)
   unfolding otherFrom
   otherFrom-inside k = λ t.
       cond (same (m .colour (pos i) (pos j)) k) (16 * m .reading (pos i) (pos j))
-      (cond (isGreen m (pos i) (pos j))
-      (cond (same (m .colour (pos i) (pos j +ℤ pos 1)) k)
-      (fill-inside 1 (inRow f (pos i) (pos j)) ((level, left), ((level, right), tt)) t)
-      (fill-inside 1 (inColumn f (pos i) (pos j)) ((above, here), ((below, here), tt)) t))
-      (fill-inside 2 (diagonal f (pos i) (pos j)) ((above, left), ((above, right), ((below, left), ((below, right), tt)))) t))
+      (fill (length (neighbours f m k (pos i) (pos j))) (greens i j hi hj t) (sumOf (map-same _ _ (λ p b. ap (λ g. colourDifference g (readingOf m p)) (greens (p .row) (p .col) (b .0) (b .1))) (neighbours f m k (pos i) (pos j)) all t)))
     where
       above : mirror (f .height) (pos i -ℤ pos 1) < f .height
       above = before-in (f .height) i hH hi
@@ -67,6 +61,9 @@ module _ (f : Frame) (m : Mosaic) (hH : 2 ≤ f .height) (hW : 2 ≤ f .width) (
 
       right : mirror (f .width) (pos j +ℤ pos 1) < f .width
       right = after-in (f .width) j hW hj
+
+      all : Every Inside (neighbours f m k (pos i) (pos j))
+      all = neighbours-cases (Every Inside) f m k (pos i) (pos j) ((level, left), ((level, right), tt)) ((above, here), ((below, here), tt)) ((above, left), ((above, right), ((below, left), ((below, right), tt))))
 
   pub sampleFrom-inside : (k : Colour) → sampleFrom f m G k (pos i) (pos j) ≡ sampleFrom f m F k (pos i) (pos j)
   sampleFrom-inside Red = otherFrom-inside Red

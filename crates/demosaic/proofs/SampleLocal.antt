@@ -1,9 +1,10 @@
 -- Locality of the fills: red and blue of row i depend on the greens and readings of the pixels at most one row away, over any greens; likewise their exact forms. Assumes nothing.
 use mathlib.Core.Path.{_≡_, ap, ap₂}
-use mathlib.Core.List.{List, map}
+use mathlib.Core.List.{map}
 use mathlib.Core.Bool.{cond}
 use Prim.Native.Nat.{ℕ, _*_}
 use lib.IntN.{ℤ, pos, _+ℤ_, _-ℤ_}
+use lib.ListN.{length}
 use Rattle.whole.specs.Fraction.{Fraction, natural}
 use Rattle.bayer.specs.declared.colour.Colour.{Colour}
 use Rattle.bayer.specs.declared.colour.Colour.the-variants.{Red, Green, Blue}
@@ -11,11 +12,11 @@ use Rattle.bayer.specs.declared.frame.Frame.{Frame}
 use Rattle.bayer.specs.Colour.{same}
 use Rattle.bayer.specs.Mirror.{mirror}
 use Rattle.gbtf.specs.Mosaic.{Mosaic}
-use Rattle.gbtf.specs.GreenAt.{isGreen}
 use Rattle.gbtf.proofs.GreenLocal.{Near}
-use Rattle.demosaic.specs.Fill.{excess, sumOf, fill}
-use Rattle.demosaic.specs.Sample.{Pixel, diagonal, inRow, inColumn, excesses, otherFrom, sampleFrom}
-use Rattle.demosaic.specs.Exact.{exactExcess, exactFill, exactExcesses, exactOtherFrom, exactFrom}
+use Rattle.demosaic.specs.Fill.{colourDifference, sumOf, fill}
+use Rattle.demosaic.specs.Sample.{Pixel, colourDifferences, neighbours, otherFrom, sampleFrom}
+use Rattle.demosaic.specs.Exact.{exactDifference, exactFill, exactDifferences, exactOtherFrom, exactFrom}
+use Rattle.demosaic.proofs.Neighbours.{neighbours-cases}
 use Rattle.demosaic.proofs.FillError.{Every, map-same}
 
 module _ (f : Frame) (colour : ℤ → ℤ → Colour) (m n : ℤ → ℤ → ℕ) (i : ℤ) (read-same : (r : ℤ) → Near 1 i r → (j : ℤ) → m r j ≡ n r j)
@@ -26,32 +27,20 @@ module _ (f : Frame) (colour : ℤ → ℤ → Colour) (m n : ℤ → ℤ → �
   abbrev y : Mosaic
   y = record { reading = n; colour = colour }
 
-  -- a pixel whose row is at most one row away from row i: all neighbours are
+  -- a pixel whose row is at most one row away from row i: every neighbour is
   abbrev Beside : Pixel → Type 0
   Beside p = Near 1 i (pos (p .row))
 
-  in-row : (j : ℤ) → Every Beside (inRow f i j)
-  in-row j = (level, (level, tt))
-
-  in-column : (j : ℤ) → Every Beside (inColumn f i j)
-  in-column j = (above, (below, tt))
-
-  on-diagonal : (j : ℤ) → Every Beside (diagonal f i j)
-  on-diagonal j = (above, (above, (below, (below, tt))))
+  beside : (k : Colour) (j : ℤ) → Every Beside (neighbours f x k i j)
+  beside k j = neighbours-cases (Every Beside) f x k i j (level, (level, tt)) (above, (below, tt)) (above, (above, (below, (below, tt))))
 
   module _ (G F : ℤ → ℤ → ℕ) (greens : (r : ℤ) → Near 1 i r → (j : ℤ) → G r j ≡ F r j) where
-    fill-same : (h : ℕ) (j : ℤ) (l : List Pixel) → Every Beside l → fill h (G i j) (excesses f x G l) ≡ fill h (F i j) (excesses f y F l)
-    fill-same h j l e = ap₂ (fill h) (greens i here j) (ap sumOf (map-same _ _ (λ p b. ap₂ excess (greens (pos (p .row)) b (pos (p .col))) (read-same (pos (p .row)) b (pos (p .col)))) l e))
-
     otherFrom-same : (k : Colour) (j : ℤ) → otherFrom f x G k i j ≡ otherFrom f y F k i j
-    unfolding otherFrom
-    otherFrom-same k j = λ t.
-        cond (same (colour i j) k) (16 * read-same i here j t)
-        (cond (isGreen x i j)
-        (cond (same (colour i (j +ℤ pos 1)) k)
-        (fill-same 1 j (inRow f i j) (in-row j) t)
-        (fill-same 1 j (inColumn f i j) (in-column j) t))
-        (fill-same 2 j (diagonal f i j) (on-diagonal j) t))
+    unfolding otherFrom neighbours
+    otherFrom-same k j = λ t. cond (same (colour i j) k) (16 * read-same i here j t) (fill (length (neighbours f x k i j)) (greens i here j t) (sumOf (differences t)))
+      where
+        differences : colourDifferences f x G (neighbours f x k i j) ≡ colourDifferences f y F (neighbours f x k i j)
+        differences = map-same _ _ (λ p b. ap₂ colourDifference (greens (pos (p .row)) b (pos (p .col))) (read-same (pos (p .row)) b (pos (p .col)))) (neighbours f x k i j) (beside k j)
 
     pub sampleFrom-same : (k : Colour) (j : ℤ) → sampleFrom f x G k i j ≡ sampleFrom f y F k i j
     sampleFrom-same Red j = otherFrom-same Red j
@@ -59,18 +48,12 @@ module _ (f : Frame) (colour : ℤ → ℤ → Colour) (m n : ℤ → ℤ → �
     sampleFrom-same Blue j = otherFrom-same Blue j
 
   module _ (G F : ℤ → ℤ → Fraction) (greens : (r : ℤ) → Near 1 i r → (j : ℤ) → G r j ≡ F r j) where
-    exactFill-same : (j : ℤ) (l : List Pixel) → Every Beside l → exactFill (G i j) (exactExcesses f x G l) ≡ exactFill (F i j) (exactExcesses f y F l)
-    exactFill-same j l e = ap₂ exactFill (greens i here j) (map-same _ _ (λ p b. ap₂ exactExcess (greens (pos (p .row)) b (pos (p .col))) (read-same (pos (p .row)) b (pos (p .col)))) l e)
-
     exactOtherFrom-same : (k : Colour) (j : ℤ) → exactOtherFrom f x G k i j ≡ exactOtherFrom f y F k i j
-    unfolding exactOtherFrom
-    exactOtherFrom-same k j = λ t.
-        cond (same (colour i j) k) (natural (16 * read-same i here j t))
-        (cond (isGreen x i j)
-        (cond (same (colour i (j +ℤ pos 1)) k)
-        (exactFill-same j (inRow f i j) (in-row j) t)
-        (exactFill-same j (inColumn f i j) (in-column j) t))
-        (exactFill-same j (diagonal f i j) (on-diagonal j) t))
+    unfolding exactOtherFrom neighbours
+    exactOtherFrom-same k j = λ t. cond (same (colour i j) k) (natural (16 * read-same i here j t)) (exactFill (greens i here j t) (differences t))
+      where
+        differences : exactDifferences f x G (neighbours f x k i j) ≡ exactDifferences f y F (neighbours f x k i j)
+        differences = map-same _ _ (λ p b. ap₂ exactDifference (greens (pos (p .row)) b (pos (p .col))) (read-same (pos (p .row)) b (pos (p .col)))) (neighbours f x k i j) (beside k j)
 
     pub exactFrom-same : (k : Colour) (j : ℤ) → exactFrom f x G k i j ≡ exactFrom f y F k i j
     exactFrom-same Red j = exactOtherFrom-same Red j

@@ -3,7 +3,7 @@ use Prim.Native.Nat.{ℕ, suc, _*_, _<_}
 use native.Mathlib.Nat.{zero-lt-suc}
 use mathlib.Core.Bool.{cond}
 use mathlib.Core.List.{List, [], _∷_, map}
-use lib.IntN.{ℤ, pos, _+ℤ_}
+use lib.IntN.{ℤ, pos}
 use lib.ListN.{length}
 use Rattle.whole.specs.Fraction.{Fraction, natural, _+ᶠ_, _-ᶠ_, dividedBy, clampᶠ}
 use Rattle.bayer.specs.declared.colour.Colour.{Colour}
@@ -12,12 +12,12 @@ use Rattle.bayer.specs.declared.frame.Frame.{Frame}
 use Rattle.bayer.specs.Colour.{same}
 use Rattle.gbtf.specs.Direction.{total}
 use Rattle.gbtf.specs.Mosaic.{Mosaic, continued}
-use Rattle.gbtf.specs.GreenAt.{isGreen, exactGreenAt}
-use Rattle.demosaic.specs.Sample.{Pixel, readingOf, diagonal, inRow, inColumn}
+use Rattle.gbtf.specs.GreenAt.{exactGreenAt}
+use Rattle.demosaic.specs.Sample.{Pixel, readingOf, neighbours}
 
 -- "exact green minus 16 × reading"
-abbrev pub exactExcess : (green : Fraction) (reading : ℕ) → Fraction
-exactExcess green reading = green -ᶠ natural (16 * reading)
+abbrev pub exactDifference : (green : Fraction) (reading : ℕ) → Fraction
+exactDifference green reading = green -ᶠ natural (16 * reading)
 
 abbrev pub sumOfFractions : List Fraction → Fraction
 sumOfFractions [] = natural 0
@@ -28,23 +28,17 @@ unfoldable pub mean : List Fraction → Fraction
 mean [] = natural 0
 mean (x ∷ l) = dividedBy (sumOfFractions (x ∷ l)) (suc (length l)) (zero-lt-suc (length l))
 
--- exact green less the mean of the neighbours' exact excesses, clamped
-unfoldable pub exactFill : (green : Fraction) (excesses : List Fraction) → Fraction
-exactFill green excesses = clampᶠ (green -ᶠ mean excesses)
+-- exact green less the mean of the neighbours' exact differences, clamped
+unfoldable pub exactFill : (green : Fraction) (differences : List Fraction) → Fraction
+exactFill green differences = clampᶠ (green -ᶠ mean differences)
 
--- over any exact greens, G
+-- over any exact greens, G, and the same neighbours
 module _ (f : Frame) (m : Mosaic) (G : (i j : ℤ) → Fraction) where
-  abbrev pub exactExcesses : List Pixel → List Fraction
-  exactExcesses l = map (λ p. exactExcess (G (pos (p .row)) (pos (p .col))) (readingOf m p)) l
+  abbrev pub exactDifferences : List Pixel → List Fraction
+  exactDifferences l = map (λ p. exactDifference (G (pos (p .row)) (pos (p .col))) (readingOf m p)) l
 
   unfoldable pub exactOtherFrom : (k : Colour) (i j : ℤ) → Fraction
-  exactOtherFrom k i j =
-      cond (same (m .colour i j) k) (natural (16 * m .reading i j))
-      (cond (isGreen m i j)
-      (cond (same (m .colour i (j +ℤ pos 1)) k)
-      (exactFill (G i j) (exactExcesses (inRow f i j)))
-      (exactFill (G i j) (exactExcesses (inColumn f i j))))
-      (exactFill (G i j) (exactExcesses (diagonal f i j))))
+  exactOtherFrom k i j = cond (same (m .colour i j) k) (natural (16 * m .reading i j)) (exactFill (G i j) (exactDifferences (neighbours f m k i j)))
 
   abbrev pub exactFrom : (k : Colour) (i j : ℤ) → Fraction
   exactFrom Red i j = exactOtherFrom Red i j

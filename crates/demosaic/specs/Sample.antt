@@ -1,8 +1,9 @@
--- The samples of the three planes at a pixel of a frame, by the whole-number rules. K is the share scale, ws the weights of the five differences. Assumes nothing.
+-- The samples of the three planes at a pixel of a frame, in units of a sixteenth of a reading, by the whole-number rules. K is the share scale, ws the weights of the five differences. Assumes nothing.
 use Prim.Native.Nat.{ℕ, _*_}
 use mathlib.Core.Bool.{cond}
 use mathlib.Core.List.{List, [], _∷_, map}
 use lib.IntN.{ℤ, pos, _+ℤ_, _-ℤ_}
+use lib.ListN.{length}
 use Rattle.bayer.specs.declared.colour.Colour.{Colour}
 use Rattle.bayer.specs.declared.colour.Colour.the-variants.{Red, Green, Blue}
 use Rattle.bayer.specs.declared.frame.Frame.{Frame}
@@ -10,7 +11,7 @@ use Rattle.bayer.specs.Colour.{same}
 use Rattle.bayer.specs.Mirror.{mirror}
 use Rattle.gbtf.specs.Mosaic.{Mosaic, continued}
 use Rattle.gbtf.specs.GreenAt.{isGreen, greenAt}
-use Rattle.demosaic.specs.Fill.{excess, sumOf, fill}
+use Rattle.demosaic.specs.Fill.{colourDifference, sumOf, fill}
 
 pub record Pixel : Type 0 where
   pub row : ℕ
@@ -35,21 +36,21 @@ module _ (f : Frame) where
 abbrev pub readingOf : Mosaic → Pixel → ℕ
 readingOf m p = m .reading (pos (p .row)) (pos (p .col))
 
+-- the neighbours that colour k is filled from at row i and column j, a pixel of another colour:
+-- at green the two in its row, if they have the colour, or else the two in its column; at the opposite colour the four diagonal ones
+unfoldable pub neighbours : Frame → Mosaic → (k : Colour) (i j : ℤ) → List Pixel
+neighbours f m k i j = cond (isGreen m i j) (cond (same (m .colour i (j +ℤ pos 1)) k) (inRow f i j) (inColumn f i j)) (diagonal f i j)
+
 -- from any greens in units, G
 module _ (f : Frame) (m : Mosaic) (G : (i j : ℤ) → ℕ) where
-  -- the sum of e over neighbours
-  abbrev pub excesses : List Pixel → ℤ
-  excesses l = sumOf (map (λ p. excess (G (pos (p .row)) (pos (p .col))) (readingOf m p)) l)
+  abbrev pub colourDifferences : List Pixel → List ℤ
+  colourDifferences l = map (λ p. colourDifference (G (pos (p .row)) (pos (p .col))) (readingOf m p)) l
 
-  -- red or blue, k: at a pixel of the colour; at green, from its row if that has the colour, else from its column; at the opposite colour
+  -- red or blue, k: the observed sample at a pixel of the colour, and elsewhere filled from neighbours
   unfoldable pub otherFrom : (k : Colour) (i j : ℤ) → ℕ
   otherFrom k i j =
       cond (same (m .colour i j) k) (16 * m .reading i j)
-      (cond (isGreen m i j)
-      (cond (same (m .colour i (j +ℤ pos 1)) k)
-      (fill 1 (G i j) (excesses (inRow f i j)))
-      (fill 1 (G i j) (excesses (inColumn f i j))))
-      (fill 2 (G i j) (excesses (diagonal f i j))))
+      (fill (length (neighbours f m k i j)) (G i j) (sumOf (colourDifferences (neighbours f m k i j))))
 
   -- plane k
   abbrev pub sampleFrom : (k : Colour) (i j : ℤ) → ℕ

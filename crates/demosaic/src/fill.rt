@@ -2,11 +2,11 @@ ghost use mathlib.Core.Path.{_≡_};
 ghost use mathlib.Core.List.{_∷_, []};
 ghost use Prim.Native.Nat.{_≤_};
 ghost use lib.IntN.{pos, natAbs, _+ℤ_, _-ℤ_};
-ghost use Rattle.demosaic.specs.Fill.{excess, sumOf, fill};
+ghost use Rattle.demosaic.specs.Fill.{colourDifference, sumOf, fill};
 
 // Green minus 16 times the reading, at a pixel of the wanted colour.
-pub fn excess(green: u16, reading: u16) -> i32
-    ensures { λ e. ⌜ e ≡ excess green reading ⌝ }
+pub fn colour_difference(green: u16, reading: u16) -> i32
+    ensures { λ e. ⌜ e ≡ colourDifference green reading ⌝ }
 {
     green as i32 - 16 * (reading as i32)
 }
@@ -26,16 +26,16 @@ fn lifted(n: u32, sum: i64, half: u32) -> i64
     n as i64 - sum + half as i64
 }
 
-// From the four diagonal neighbours: g is the pixel's green, the rest the neighbours' excess of green.
+// From the four diagonal neighbours: g is the pixel's green, the rest the neighbours' colour differences.
 pub fn fill_diagonal(g: u16, nw: i32, ne: i32, sw: i32, se: i32) -> u16
-    ensures { λ r. ⌜ r ≡ fill 2 g (sumOf (nw ∷ ne ∷ sw ∷ se ∷ [])) ⌝ }
+    ensures { λ r. ⌜ r ≡ fill 4 g (sumOf (nw ∷ ne ∷ sw ∷ se ∷ [])) ⌝ }
 {
     whole::clamp(lifted(4 * (g as u32), plus(nw, ne) + plus(sw, se), 2) >> 2)
 }
 
 // From the two neighbours in the row, or in the column.
 pub fn fill_pair(g: u16, before: i32, after: i32) -> u16
-    ensures { λ r. ⌜ r ≡ fill 1 g (sumOf (before ∷ after ∷ [])) ⌝ }
+    ensures { λ r. ⌜ r ≡ fill 2 g (sumOf (before ∷ after ∷ [])) ⌝ }
 {
     whole::clamp(lifted(2 * (g as u32), plus(before, after), 1) >> 1)
 }

@@ -17,7 +17,7 @@ use Rattle.gbtf.specs.Fusion.{fusion, green}
 use Rattle.gbtf.specs.Mosaic.{Mosaic, continued}
 use Rattle.gbtf.specs.GreenAt.{DH, DV, GH, GV, greenAt}
 use Rattle.demosaic.specs.Fill.{fill}
-use Rattle.demosaic.specs.Sample.{otherFrom, sampleFrom, sample, scale, evenWeights}
+use Rattle.demosaic.specs.Sample.{neighbours, otherFrom, sampleFrom, sample, scale, evenWeights}
 use Rattle.demosaic.proofs.SampleInside.{sampleFrom-inside}
 use Rattle.figures.specs.Figures.{Claim, planesOf, frame8, readings8, all, plane8Is, holds, every, pixelFigures, frameFigures, figures}
 
@@ -88,7 +88,7 @@ unfolding colours colourAt mirror rowOf difference fusion green DH DV GH GV gree
 greens-4095 = tt
 
 frames-hold : T (every frameFigures)
-unfolding colours colourAt mirror rowOf fill otherFrom
+unfolding colours colourAt mirror rowOf fill neighbours otherFrom
 frames-hold =
     both (holds (planesOf 400 200 100 6400 3200 1600)) (every (planesOf 4095 0 0 65520 0 0 ∷ [])) (planes-hold 400 200 100 6400 3200 1600 greens-400 tt tt)
     (both (holds (planesOf 4095 0 0 65520 0 0)) true (planes-hold 4095 0 0 65520 0 0 greens-4095 tt tt) tt)

@@ -18,12 +18,12 @@ use Rattle.demosaic.specs.Sample.{sample, scale, evenWeights}
 pub data Claim : Type 0 where
   -- the difference, for a centre that is green or not
   differenceIs : (green : Bool) (c l r p q : ℕ) → ℤ → Claim
-  -- the share of guarded sum t, where the smallest is m
-  shareIs : (m t : ℕ) → ℕ → Claim
+  -- the shares of four directions, by their guarded sums
+  sharesAre : (t₁ t₂ t₃ t₄ : ℕ) → (q₁ q₂ q₃ q₄ : ℕ) → Claim
   -- of four directions of equal t: what their five-sums add to, and what fusion adds
   fusionAdds : (t : ℕ) (east west north south : ℤ) (sum : ℤ) → ℤ → Claim
-  -- fills from 2h neighbours, by the sum of their e
-  fillIs : (h g : ℕ) (sum : ℤ) → ℕ → Claim
+  -- a fill from n neighbours, by what their e adds to
+  fillIs : (n g : ℕ) (sum : ℤ) → ℕ → Claim
   mirrorReads : (size : ℕ) (position : ℤ) → ℕ → Claim
   -- every sample of the three planes of the 8 by 8 frame, layout 0, whose red, green and blue readings are these
   planesOf : (red green blue : ℕ) → (R G B : ℕ) → Claim
@@ -58,9 +58,11 @@ plane8Is readings k v = all 8 (λ i. all 8 (λ j. eqb (sample scale evenWeights 
 
 abbrev pub holds : Claim → Bool
 holds (differenceIs b c l r p q z) = equal (difference b c l r p q) z
-holds (shareIs m t q) = eqb (share scale m t) q
+holds (sharesAre t₁ t₂ t₃ t₄ q₁ q₂ q₃ q₄) =
+    let m = smallest (direction (pos 0) t₁) (direction (pos 0) t₂ ∷ direction (pos 0) t₃ ∷ direction (pos 0) t₄ ∷ []) in
+    eqb (share scale m (guarded t₁)) q₁ && (eqb (share scale m (guarded t₂)) q₂ && (eqb (share scale m (guarded t₃)) q₃ && eqb (share scale m (guarded t₄)) q₄))
 holds (fusionAdds t e w n s sum z) = equal (e +ℤ w +ℤ n +ℤ s) sum && equal (adds (direction e t) (direction w t ∷ direction n t ∷ direction s t ∷ [])) z
-holds (fillIs h g sum v) = eqb (fill h g sum) v
+holds (fillIs n g sum v) = eqb (fill n g sum) v
 holds (mirrorReads size z v) = eqb (mirror size z) v
 holds (planesOf red green blue R G B) = plane8Is (readings8 red green blue) Red R && (plane8Is (readings8 red green blue) Green G && plane8Is (readings8 red green blue) Blue B)
 
@@ -72,12 +74,13 @@ every (c ∷ l) = holds c && every l
 abbrev pub pixelFigures : List Claim
 pixelFigures =
     differenceIs false 100 10 20 90 98 (negsuc 327) ∷ differenceIs true 100 10 20 90 98 (pos 328)
-    ∷ shareIs 4 4 134217728 ∷ shareIs 4 8 33554432 ∷ shareIs 4 12 14913080
+    ∷ sharesAre 4 4 4 8 134217728 134217728 134217728 33554432
+    ∷ sharesAre 12 4 12 12 14913080 134217728 14913080 14913080
     ∷ fusionAdds 4 (pos 3) (pos 0) (pos 0) (pos 0) (pos 3) (pos 1)
     ∷ fusionAdds 9 (pos 5) (negsuc 6) (pos 2) (pos 2) (pos 2) (pos 0)
     ∷ fusionAdds 4 (negsuc 1) (pos 0) (pos 0) (pos 0) (negsuc 1) (pos 0)
     ∷ fusionAdds 9 (negsuc 4) (pos 6) (negsuc 1) (negsuc 1) (negsuc 2) (negsuc 0)
-    ∷ fillIs 2 10 (pos 2) 10 ∷ fillIs 2 10 (negsuc 1) 11 ∷ fillIs 1 10 (pos 1) 10
+    ∷ fillIs 4 10 (pos 2) 10 ∷ fillIs 4 10 (negsuc 1) 11 ∷ fillIs 2 10 (pos 1) 10
     ∷ mirrorReads 8 (negsuc 0) 1 ∷ mirrorReads 8 (negsuc 6) 7 ∷ mirrorReads 8 (pos 8) 6 ∷ mirrorReads 8 (pos 14) 0
     ∷ []
 

@@ -1,10 +1,10 @@
--- `demosaic::fill::excess` meets its contract. Assumes nothing.
+-- `demosaic::fill::colour_difference` meets its contract. Assumes nothing.
 use native.Mathlib.Omega.{arith}
 use mir.Syntax.{w32}
 use Rattle.whole.proofs.Signed.{E, lit, nat, _⊖_, _⊗_, asked, value}
 use borrow.Author.Needs.{needs}
-use Rattle.demosaic.proofs.fill.excess.Statement.{statement}
-use Rattle.demosaic.proofs.fill.excess.Tie as tie
+use Rattle.demosaic.proofs.fill.colour_difference.Statement.{statement}
+use Rattle.demosaic.proofs.fill.colour_difference.Tie as tie
 
 abbrev scaled : tie.Start → E w32
 scaled c = lit 16 ⊗ nat (c .args .reading) 65535 (omega arith)
@@ -27,5 +27,5 @@ sub-result c = asked (less c) tt
 returns : tie.Need-returns
 returns c = value (less c) tt
 
-pub excess-spec : {M : Type 1} → statement M
-excess-spec = tie.close (tie.spec cast-result cast-result-2 mul-result sub-result returns)
+pub colour-difference-spec : {M : Type 1} → statement M
+colour-difference-spec = tie.close (tie.spec cast-result cast-result-2 mul-result sub-result returns)
