@@ -24,7 +24,8 @@ use Rattle.demosaic.specs.Fill.{fill, sumOf}
 use Rattle.demosaic.specs.Sample.{Pixel, diagonal, inRow, inColumn, readingOf, colourDifferences, otherFrom, sampleFrom, sample, scale, evenWeights}
 use Rattle.demosaic.specs.Exact.{exactFill, exactDifferences, exactOtherFrom, exactFrom, exactSample, printed}
 use Rattle.demosaic.proofs.Neighbours.{neighbours-cases}
-use Rattle.demosaic.proofs.FillError.{everywhere, fill-within}
+use Rattle.demosaic.proofs.FillError.{fill-within}
+use Rattle.whole.proofs.Lists.{everywhere}
 
 -- greens within a/(2c) everywhere give red and blue within 1/2 + 2a/(2c)
 module _ (f : Frame) (m : Mosaic) (G : (i j : ℤ) → ℕ) (E : (i j : ℤ) → Fraction) (a c : ℕ) (near : (i j : ℤ) → Within (natural (G i j)) (E i j) a (2 * c)) where

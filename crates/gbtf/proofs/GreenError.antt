@@ -1,22 +1,22 @@
 -- The error of green against exact green: at most 1/2 + 8 G n / K for 1 + n directions whose five-sums are within T G. Assumes nothing.
 use mathlib.Core.Path.{_≡_, refl, sym, ap}
 use mathlib.Core.List.{List, [], _∷_}
-use Prim.Native.Nat.{ℕ, suc, _+_, _*_, _-_, _≤_, _<_}
-use native.Mathlib.Nat.{mul-pos, mul-le-mul-left, mul-le-mul}
+use Prim.Native.Nat.{ℕ, _+_, _*_, _-_, _≤_, _<_}
+use native.Mathlib.Nat.{le-refl, mul-pos, mul-le-mul-left, mul-le-mul}
 use native.Mathlib.Omega.{arith}
 use lib.IntN.{ℤ, pos, negsuc, natAbs, _+ℤ_, _*ℤ_}
 use lib.ListN.{length}
 use Rattle.whole.specs.Parts.{up, down}
 use Rattle.whole.specs.Clamp.{clamp}
-use Rattle.whole.specs.Fraction.{Fraction, integer, natural, _+ᶠ_, times, dividedBy, quotient, clampᶠ, Same, Within}
+use Rattle.whole.specs.Fraction.{Fraction, ratio, integer, natural, _+ᶠ_, times, dividedBy, quotient, clampᶠ, Same, Within}
 use Rattle.whole.proofs.Pairs.{+ℤ-up, up-times, down-times}
-use Rattle.whole.proofs.FloorLaws.{floor-low, floor-high}
-use Rattle.whole.proofs.FractionLaws.{within-trans, within-clamp, within-wider, add-up, within-from, within-to, within-shift, clamp-is, sum-is}
+use Rattle.whole.proofs.Lists.{Every, every, everywhere}
+use Rattle.whole.proofs.FractionLaws.{within-trans, within-clamp, within-wider, add-up, within-from, within-to, within-shift, clamp-is, sum-is, rounded-near}
 use Rattle.gbtf.specs.declared.direction.Direction.{Direction}
 use Rattle.gbtf.specs.Direction.{t}
 use Rattle.gbtf.specs.Fusion.{smallest, share, shares, sharedDifferences, fusion, green}
-use Rattle.gbtf.specs.Exact.{sumOfA/t², sumOf1/t², sumOf1-minus, above0, exactGreen}
-use Rattle.gbtf.proofs.Mean.{Each, each, square, prod, mixed, shared, loose, one, means, attained, loose-less, shares-least}
+use Rattle.gbtf.specs.Exact.{sumOver/t², sumOfA/t², sumOf1/t², above0, exactGreen}
+use Rattle.gbtf.proofs.Mean.{square, prod, mixed, shared, loose, one, mixed-bound, means, attained, loose-less, shares-least}
 
 a⁺ : Direction → ℕ
 a⁺ d = up (d .differences)
@@ -36,51 +36,32 @@ unfolding shared a⁺ a⁻
 fused-is K m [] = refl
 fused-is K m (d ∷ l) = omega (arith, +ℤ-up (pos (share K m (t d)) *ℤ d .differences) (sharedDifferences K m l), up-times (share K m (t d)) (d .differences), down-times (share K m (t d)) (d .differences), fused-is K m l)
 
-A-under : (l : List Direction) → (sumOfA/t² l) .under ≡ prod l
-unfolding sumOfA/t² prod
-A-under [] = refl
-A-under (d ∷ l) = ap (λ n. square d * n) (A-under l)
+sum-under : (f : Direction → ℤ) (l : List Direction) → (sumOver/t² f l) .under ≡ prod l
+unfolding sumOver/t² prod
+sum-under f [] = refl
+sum-under f (d ∷ l) = ap (λ n. square d * n) (sum-under f l)
 
-A-plus : (l : List Direction) → (sumOfA/t² l) .plus ≡ mixed a⁺ l
-unfolding sumOfA/t² mixed a⁺
-A-plus [] = refl
-A-plus (d ∷ l) = rw (A-under l, A-plus l)
+sum-plus : (f : Direction → ℤ) (l : List Direction) → (sumOver/t² f l) .plus ≡ mixed (λ d. up (f d)) l
+unfolding sumOver/t² mixed
+sum-plus f [] = refl
+sum-plus f (d ∷ l) = rw (sum-under f l, sum-plus f l)
 
-A-minus : (l : List Direction) → (sumOfA/t² l) .minus ≡ mixed a⁻ l
-unfolding sumOfA/t² mixed a⁻
-A-minus [] = refl
-A-minus (d ∷ l) = rw (A-under l, A-minus l)
-
-1-under : (l : List Direction) → (sumOf1/t² l) .under ≡ prod l
-unfolding sumOf1/t² prod
-1-under [] = refl
-1-under (d ∷ l) = ap (λ n. square d * n) (1-under l)
-
-1-plus : (l : List Direction) → (sumOf1/t² l) .plus ≡ mixed one l
-unfolding sumOf1/t² mixed one
-1-plus [] = refl
-1-plus (d ∷ l) = rw (1-under l, 1-plus l)
+sum-minus : (f : Direction → ℤ) (l : List Direction) → (sumOver/t² f l) .minus ≡ mixed (λ d. down (f d)) l
+unfolding sumOver/t² mixed
+sum-minus f [] = refl
+sum-minus f (d ∷ l) = rw (sum-under f l, sum-minus f l)
 
 -- ---- the fusion is within 1/2 of 4N/(TS)
 
 abbrev quarters : (N : ℤ) (R : ℕ) → 0 < R → Fraction
 quarters N R h = record { plus = 4 * up N; minus = 4 * down N; under = R; proper = h }
 
-round-low : (F⁺ F⁻ z⁺ z⁻ N⁺ N⁻ R : ℕ) → F⁺ * (2 * R) + z⁻ ≤ z⁺ + F⁻ * (2 * R) → z⁺ + 8 * N⁻ ≡ z⁻ + (8 * N⁺ + R) → 2 * (F⁺ * R + (4 * N⁻) * 1) ≤ 2 * ((4 * N⁺) * 1 + F⁻ * R) + 1 * (1 * R)
-round-low F⁺ F⁻ z⁺ z⁻ N⁺ N⁻ R h e = omega arith
-
-round-high : (F⁺ F⁻ z⁺ z⁻ N⁺ N⁻ R : ℕ) → z⁺ + F⁻ * (2 * R) < z⁻ + F⁺ * (2 * R) + 2 * R → z⁺ + 8 * N⁻ ≡ z⁻ + (8 * N⁺ + R) → 2 * ((4 * N⁺) * 1 + F⁻ * R) ≤ 2 * (F⁺ * R + (4 * N⁻) * 1) + 1 * (R * 1)
-round-high F⁺ F⁻ z⁺ z⁻ N⁺ N⁻ R h e = omega arith
-
 pub fusion-near : (N : ℤ) (S T : ℕ) (h : 0 < T * S) → Within (integer (fusion N S T)) (quarters N (T * S) h) 1 2
 unfolding fusion
-fusion-near N S T h = record { low = round-low _ _ _ _ (up N) (down N) (T * S) (floor-low z (2 * (T * S)) (omega arith)) e; high = round-high _ _ _ _ (up N) (down N) (T * S) (floor-high z (2 * (T * S)) (omega arith)) e }
+fusion-near N S T h = within-to (ratio (pos 8 *ℤ N) (2 * (T * S)) p) (quarters N (T * S) h) (rounded-near (pos 8 *ℤ N) (T * S) p) (rw (up-times 8 N, down-times 8 N) (omega arith))
   where
-    z : ℤ
-    z = pos 8 *ℤ N +ℤ pos (T * S)
-
-    e : up z + 8 * down N ≡ down z + (8 * up N + T * S)
-    e = omega (arith, +ℤ-up (pos 8 *ℤ N) (pos (T * S)), up-times 8 N, down-times 8 N)
+    p : 0 < 2 * (T * S)
+    p = omega arith
 
 -- ---- 4N/(TS) is within 8 G n / K of 4E/(TP), G a bound on |A| / T
 
@@ -118,20 +99,33 @@ least-pos : (d : Direction) (l : List Direction) → 0 < smallest d l
 least-pos d [] = omega arith
 least-pos d (e ∷ l) = omega (arith, least-pos e l)
 
-exact-core : (Ea Eb P p T : ℕ) → (4 * Ea) * (p * (P - 0) * T) + (4 * (Eb * p)) * (P * T) ≡ (4 * (Ea * p)) * (P * T) + (4 * Eb) * (p * (P - 0) * T)
-exact-core Ea Eb P p T = let e : P - 0 ≡ P = omega arith in rw e (omega arith)
+exact-core : (Ea Eb P p T z : ℕ) → z ≡ 0 → (4 * Ea) * (p * (P - z) * T) + (4 * (Eb * p)) * (P * T) ≡ (4 * (Ea * p)) * (P * T) + (4 * Eb) * (p * (P - z) * T)
+exact-core Ea Eb P p T z h = let e : P - z ≡ P = omega arith in rw e (omega arith)
 
 weights-pos : (d : Direction) (l : List Direction) → 0 < mixed one (d ∷ l)
-weights-pos d l = omega (arith, above0 d l, 1-plus (d ∷ l))
+unfolding one
+weights-pos d l = omega (arith, above0 d l, sum-plus (λ d. pos 1) (d ∷ l))
 
 -- 4E/(TP), and that it is the exact form's fraction
 abbrev simple : (T : ℕ) → 0 < T → Direction → List Direction → Fraction
 simple T hT d l = record { plus = 4 * mixed a⁺ (d ∷ l); minus = 4 * mixed a⁻ (d ∷ l); under = mixed one (d ∷ l) * T; proper = mul-pos (weights-pos d l) hT }
 
 simple-is : (T : ℕ) (hT : 0 < T) (d : Direction) (l : List Direction) → Same (simple T hT d l) (dividedBy (times 4 (quotient (sumOfA/t² (d ∷ l)) (sumOf1/t² (d ∷ l)) (above0 d l))) T hT)
-simple-is T hT d l = rw (A-plus (d ∷ l), A-minus (d ∷ l), A-under (d ∷ l), 1-plus (d ∷ l), 1-under (d ∷ l), sumOf1-minus (d ∷ l)) (exact-core (mixed a⁺ (d ∷ l)) (mixed a⁻ (d ∷ l)) (mixed one (d ∷ l)) (prod (d ∷ l)) T)
+unfolding a⁺ a⁻ one
+simple-is T hT d l =
+    rw (sum-plus A w, sum-minus A w, sum-under A w, sum-plus (λ e. pos 1) w, sum-minus (λ e. pos 1) w, sum-under (λ e. pos 1) w)
+    (exact-core (mixed a⁺ w) (mixed a⁻ w) (mixed one w) (prod w) T _ none)
+  where
+    A : Direction → ℤ
+    A e = e .differences
 
-module _ (K T c : ℕ) (hK : 0 < K) (hT : 0 < T) (G : ℕ) (d : Direction) (l : List Direction) (small : Each (λ e. natAbs (e .differences) ≤ T * G) (d ∷ l)) where
+    w : List Direction
+    w = d ∷ l
+
+    none : mixed (λ e. 0) w ≡ 0
+    none = omega (arith, mixed-bound (λ e. 0) 0 w (everywhere (λ e. le-refl 0) w))
+
+module _ (K T c : ℕ) (hK : 0 < K) (hT : 0 < T) (G : ℕ) (d : Direction) (l : List Direction) (small : Every (λ e. natAbs (e .differences) ≤ T * G) (d ∷ l)) where
   hS : K ≤ shares K (smallest d l) (d ∷ l)
   hS = shares-least K (least-pos d l) (attained d l)
 
@@ -157,11 +151,11 @@ module _ (K T c : ℕ) (hK : 0 < K) (hT : 0 < T) (G : ℕ) (d : Direction) (l : 
       M : ℕ
       M = K * (m * m)
 
-      ups : Each (λ e. a⁺ e ≤ T * G) w
-      ups = each (λ e h. up-le (e .differences) (T * G) h) w small
+      ups : Every (λ e. a⁺ e ≤ T * G) w
+      ups = every (λ e h. up-le (e .differences) (T * G) h) w small
 
-      downs : Each (λ e. a⁻ e ≤ T * G) w
-      downs = each (λ e h. down-le (e .differences) (T * G) h) w small
+      downs : Every (λ e. a⁻ e ≤ T * G) w
+      downs = every (λ e h. down-le (e .differences) (T * G) h) w small
 
       few : K * loose M w ≤ shares K m w * length l
       few = mul-le-mul hS (omega (arith, loose-less K (attained d l)))

@@ -1,28 +1,22 @@
 -- The distance of N/S, the mean by floored shares, from E/P, the mean by 1/t². Induction over the directions, for any number of them. Assumes nothing.
 use mathlib.Core.Path.{_≡_, refl, sym, _∙_, ap}
 use mathlib.Core.List.{List, [], _∷_}
-use Prim.Native.Nat.{ℕ, suc, _+_, _*_, _-_, _/_, _%_, _≤_, _<_, min}
-use native.Mathlib.Nat.{mul-pos, mul-le-mul-left, mul-le-mul, le-of-mul-le-mul-left, div-add-mod', mod-lt, mul-mod-left, mul-div-cancel}
+use Prim.Native.Nat.{ℕ, suc, _+_, _*_, _/_, _%_, _≤_, _<_, min}
+use native.Mathlib.Nat.{mul-pos, mul-le-mul-left, le-of-mul-le-mul-left, div-add-mod', mod-lt, mul-mod-left, mul-div-cancel}
 use native.Mathlib.Decide.{decLe}
 use native.Mathlib.Omega.{arith}
 use lib.ListN.{length}
+use Rattle.whole.proofs.Lists.{Every, every}
 use Rattle.whole.proofs.FractionLaws.{both}
 use Rattle.gbtf.specs.declared.direction.Direction.{Direction}
 use Rattle.gbtf.specs.Direction.{t}
 use Rattle.gbtf.specs.Fusion.{smallest, share, shares}
-use Rattle.gbtf.specs.Exact.{square-pos}
-
--- every direction has P
-abbrev pub Each : (Direction → Type 0) → List Direction → Type 0
-Each P [] = Unit
-Each P (d ∷ l) = P d × Each P l
-
-pub each : {P Q : Direction → Type 0} → ((d : Direction) → P d → Q d) → (l : List Direction) → Each P l → Each Q l
-each f [] h = tt
-each f (d ∷ l) h = (f d (h .0), each f l (h .1))
 
 abbrev pub square : Direction → ℕ
 square d = t d * t d
+
+square-pos : (d : Direction) → 0 < square d
+square-pos d = mul-pos (omega arith) (omega arith)
 
 -- Π t²; Σ f Π/t²; Σ q f; how many shares are not exact
 unfoldable pub prod : List Direction → ℕ
@@ -67,7 +61,7 @@ shared-linear M f Y X (d ∷ l) = ap (λ n. M / square d * (f d * Y + X) + n) (s
     ring : (a Y X q m o : ℕ) → q * (a * Y + X) + (m * Y + X * o) ≡ (q * a + m) * Y + X * (q * 1 + o)
     ring a Y X q m o = omega arith
 
-pub mixed-bound : (f : Direction → ℕ) (B : ℕ) (l : List Direction) → Each (λ d. f d ≤ B) l → mixed f l ≤ B * mixed one l
+pub mixed-bound : (f : Direction → ℕ) (B : ℕ) (l : List Direction) → Every (λ d. f d ≤ B) l → mixed f l ≤ B * mixed one l
 unfolding mixed one
 mixed-bound f B [] h = omega arith
 mixed-bound f B (d ∷ l) h = step (f d) B (prod l) (square d) (mixed f l) (mixed one l) (h .0) (mixed-bound f B l (h .1))
@@ -97,7 +91,7 @@ loose-is r w h = go (decLe 1 r)
     go (yes k) = let e : min 1 r ≡ 1 = omega arith in rw e (omega arith)
     go (no k) = omega arith
 
-pub near : (M : ℕ) (f g : Direction → ℕ) (D : ℕ) (l : List Direction) → Each (λ d. f d ≤ g d + D) l → M * mixed f l + prod l * shared M g l ≤ M * mixed g l + prod l * shared M f l + (D * loose M l) * prod l
+pub near : (M : ℕ) (f g : Direction → ℕ) (D : ℕ) (l : List Direction) → Every (λ d. f d ≤ g d + D) l → M * mixed f l + prod l * shared M g l ≤ M * mixed g l + prod l * shared M f l + (D * loose M l) * prod l
 unfolding mixed shared loose prod
 near M f g D [] h = omega arith
 near M f g D (d ∷ l) h =
@@ -115,9 +109,9 @@ near M f g D (d ∷ l) h =
 cancel : (M p mf mg sf sg R : ℕ) → mf ≡ mg → M * mf + p * sg ≤ M * mg + p * sf + R * p → 0 < p → sg ≤ sf + R
 cancel M p mf mg sf sg R e h k = le-of-mul-le-mul-left {k = p} (omega (arith, ap (λ n. M * n) e)) k
 
-pub means : (M B : ℕ) (a b : Direction → ℕ) (l : List Direction) → Each (λ d. a d ≤ B) l → Each (λ d. b d ≤ B) l
+pub means : (M B : ℕ) (a b : Direction → ℕ) (l : List Direction) → Every (λ d. a d ≤ B) l → Every (λ d. b d ≤ B) l
     → shared M b l * mixed one l + mixed a l * shared M one l ≤ shared M a l * mixed one l + mixed b l * shared M one l + (2 * B * mixed one l) * loose M l
-means M B a b l ha hb = rw (shared-linear M b P Ea l, shared-linear M a P Eb l) at (cancel M (prod l) (mixed f l) (mixed g l) (shared M f l) (shared M g l) ((2 * B * P) * loose M l) same (near M f g (2 * B * P) l (each2 l ha)) (prod-pos l))
+means M B a b l ha hb = rw (shared-linear M b P Ea l, shared-linear M a P Eb l) at (cancel M (prod l) (mixed f l) (mixed g l) (shared M f l) (shared M g l) ((2 * B * P) * loose M l) same (near M f g (2 * B * P) l (spread l ha)) (prod-pos l))
   where
     P : ℕ
     P = mixed one l
@@ -137,8 +131,8 @@ means M B a b l ha hb = rw (shared-linear M b P Ea l, shared-linear M a P Eb l) 
     same : mixed f l ≡ mixed g l
     same = mixed-linear a P Eb l ∙ (omega arith) ∙ sym (mixed-linear b P Ea l)
 
-    each2 : (k : List Direction) → Each (λ d. a d ≤ B) k → Each (λ d. f d ≤ g d + 2 * B * P) k
-    each2 k h = each (λ d i. omega (arith, mul-le-mul-left P i, mixed-bound b B l hb)) k h
+    spread : (k : List Direction) → Every (λ d. a d ≤ B) k → Every (λ d. f d ≤ g d + 2 * B * P) k
+    spread k h = every (λ d i. omega (arith, mul-le-mul-left P i, mixed-bound b B l hb)) k h
 
 -- ---- a direction with t = m has an exact share, K
 

@@ -1,15 +1,16 @@
--- Bounds on the numbers of one pixel, and document 01's own forms of the sums. Assumes nothing.
-use mathlib.Core.Path.{_≡_}
+-- Bounds on the numbers of one pixel, and document 01's own forms of the sums and of green. Assumes nothing.
+use mathlib.Core.Path.{_≡_, _∙_, ap, ap₂}
 use mathlib.Core.Bool.{Bool, true, false}
 use mathlib.Core.List.{List, [], _∷_}
-use Prim.Native.Nat.{ℕ, _*_, _^_, _≤_, _<_}
+use Prim.Native.Nat.{ℕ, _+_, _*_, _/_, _^_, _≤_, _<_, min, max}
 use native.Mathlib.Nat.{le-refl, le-trans, lt-of-le-of-lt, mul-le-mul, mul-le-mul-left, mul-pos, div-le-of-le-mul, mul-div-cancel}
 use native.Mathlib.Omega.{arith}
 use lib.Dec.{lit<}
-use lib.IntN.{ℤ, pos, negℤ, natAbs, _+ℤ_, _*ℤ_}
+use lib.IntN.{ℤ, pos, negℤ, natAbs, _+ℤ_, _-ℤ_, _*ℤ_}
 use lib.ListN.{getD}
 use mir.Syntax.{w64}
 use Rattle.whole.specs.Floor.{floorDiv}
+use Rattle.whole.specs.Clamp.{clamp}
 use Rattle.whole.proofs.Pairs.{Pair, anyₚ, natₚ, _+ₚ_, _-ₚ_, negₚ, _*ₚ_, eq-by, within-by}
 use Rattle.whole.proofs.FloorLaws.{floor-within}
 use Rattle.whole.proofs.Magnitudes.{sub-within}
@@ -17,7 +18,9 @@ use Rattle.whole.proofs.Signed.{E, lit, nat, int, _⊕_, _⊗_, within}
 use Rattle.gbtf.specs.declared.direction.Direction.{Direction}
 use Rattle.gbtf.specs.Difference.{difference, gradient, Readings}
 use Rattle.gbtf.specs.Direction.{directionSum, fiveSum, total, t}
-use Rattle.gbtf.specs.Fusion.{share, fusion, Fitting}
+use Rattle.gbtf.specs.Fusion.{smallest, share, fusion, green, Fitting}
+use Rattle.gbtf.specs.Mosaic.{Mosaic}
+use Rattle.gbtf.specs.GreenAt.{isGreen, DH, DV, GH, GV, window, greenAt}
 
 -- ---- differences and gradients
 abbrev pub differenceₚ : (green : Bool) (c l r p q : ℕ) → Pair (difference green c l r p q)
@@ -78,3 +81,45 @@ fitting d h g = fitting-to (2 ^ 27) 294840 d (omega arith) g (omega arith) (lit<
 
 pub fitting-24 : (d : Direction) → natAbs (d .differences) ≤ 1638000 → d .gradients ≤ 884520 → Fitting (2 ^ 24) d
 fitting-24 d h g = fitting-to (2 ^ 24) 884520 d (omega arith) g (omega arith) (lit< tt)
+
+-- ---- green
+four-directions : (K c : ℕ) (e w n s : Direction) →
+    let q : Direction → ℕ = λ d. share K (smallest e (w ∷ n ∷ s ∷ [])) (t d) in
+    let N = pos (q e) *ℤ e .differences +ℤ pos (q w) *ℤ w .differences +ℤ pos (q n) *ℤ n .differences +ℤ pos (q s) *ℤ s .differences in
+    let S = q e + q w + q n + q s in
+    green K 5 c e (w ∷ n ∷ s ∷ []) ≡ clamp (pos (16 * c) +ℤ floorDiv (pos 8 *ℤ N +ℤ pos (5 * S)) (10 * S))
+unfolding green
+four-directions K c e w n s = ap (λ z. clamp (pos (16 * c) +ℤ z)) (ap₂ (λ N S. fusion N S 5) (products (p e) (p w) (p n) (p s)) (sums (q e) (q w) (q n) (q s)) ∙ fusion-five _ _)
+  where
+    q : Direction → ℕ
+    q d = share K (smallest e (w ∷ n ∷ s ∷ [])) (t d)
+
+    p : Direction → ℤ
+    p d = pos (q d) *ℤ d .differences
+
+    products : (a b c d : ℤ) → a +ℤ (b +ℤ (c +ℤ (d +ℤ pos 0))) ≡ a +ℤ b +ℤ c +ℤ d
+    products a b c d = eq-by (anyₚ a +ₚ (anyₚ b +ₚ (anyₚ c +ₚ (anyₚ d +ₚ natₚ 0)))) (anyₚ a +ₚ anyₚ b +ₚ anyₚ c +ₚ anyₚ d) (omega arith)
+
+    sums : (a b c d : ℕ) → a + (b + (c + (d + 0))) ≡ a + b + c + d
+    sums a b c d = omega arith
+
+-- document 01's rule at a red or blue pixel, as printed: five-sums A and guarded sums t of the four directions, the smallest m, shares q, their sums N and S
+pub green-printed : (x : Mosaic) (i j : ℤ) → isGreen x i j ≡ false →
+    let five : (ℕ → ℤ) → ℤ = λ D. D 0 +ℤ D 1 +ℤ D 2 +ℤ D 3 +ℤ D 4 in
+    let Ae = five (λ k. DH x i (j +ℤ pos k)) in
+    let Aw = five (λ k. DH x i (j -ℤ pos k)) in
+    let An = five (λ k. DV x (i -ℤ pos k) j) in
+    let As = five (λ k. DV x (i +ℤ pos k) j) in
+    let te = max (directionSum (window (GH x) (i -ℤ pos 1) j)) 4 in
+    let tw = max (directionSum (window (GH x) (i -ℤ pos 1) (j -ℤ pos 2))) 4 in
+    let tn = max (directionSum (window (GV x) (i -ℤ pos 2) (j -ℤ pos 1))) 4 in
+    let ts = max (directionSum (window (GV x) i (j -ℤ pos 1))) 4 in
+    let m = min te (min tw (min tn ts)) in
+    let q : ℕ → ℕ = λ t. 2 ^ 27 * (m * m) / (t * t) in
+    let N = pos (q te) *ℤ Ae +ℤ pos (q tw) *ℤ Aw +ℤ pos (q tn) *ℤ An +ℤ pos (q ts) *ℤ As in
+    let S = q te + q tw + q tn + q ts in
+    greenAt (1 ∷ 1 ∷ 1 ∷ 1 ∷ 1 ∷ []) x i j (2 ^ 27) ≡ clamp (pos (16 * x .reading i j) +ℤ floorDiv (pos 8 *ℤ N +ℤ pos (5 * S)) (10 * S))
+unfolding greenAt
+green-printed x i j e =
+    rw (e, five-sum-even (λ k. DH x i (j +ℤ pos k)), five-sum-even (λ k. DH x i (j -ℤ pos k)), five-sum-even (λ k. DV x (i -ℤ pos k) j), five-sum-even (λ k. DV x (i +ℤ pos k) j))
+    (four-directions (2 ^ 27) (x .reading i j) _ _ _ _)

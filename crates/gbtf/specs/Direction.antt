@@ -1,22 +1,22 @@
--- What green takes from one direction: its direction sum, guarded, and its five-sum. Assumes nothing.
-use Prim.Native.Nat.{ℕ, _+_, _*_, max}
+-- What green takes from one direction: its direction sum, guarded (source 004, equation 10), and its five-sum (equation 9). Assumes nothing.
+use Prim.Native.Nat.{ℕ, _+_, max}
 use mathlib.Core.List.{List, []}
 use lib.IntN.{ℤ, pos, _+ℤ_, _*ℤ_}
 use lib.ListN.{getD}
 use Rattle.gbtf.specs.declared.direction.Direction.{Direction}
 
--- direction sum: the nine gradients of a window, which stand as three rows of three
+-- document 01's direction sum: the nine gradients of a window, which stand as three rows of three (equation 10)
 abbrev pub sum3 : (ℕ → ℕ) → ℕ
 sum3 f = f 0 + f 1 + f 2
 
 abbrev pub directionSum : List (List ℕ) → ℕ
 directionSum w = sum3 (λ i. sum3 (λ j. getD (getD w i []) j 0))
 
--- guarded sum t: max(s, 4)
+-- the guarded sum t: max(s, 4). Source 000 guards the square by max(square, 1); four quarter steps are 1
 abbrev pub guarded : ℕ → ℕ
 guarded s = max s 4
 
--- five-sum: the five differences from the pixel outward, by their weights (document 01 has five ones)
+-- document 01's five-sum: the five differences from the pixel outward, by their weights, in 01 five ones (equation 9)
 abbrev pub fiveSum : (weights : List ℕ) (D : ℕ → ℤ) → ℤ
 fiveSum ws D =
     pos (getD ws 0 0) *ℤ D 0 +ℤ pos (getD ws 1 0) *ℤ D 1 +ℤ pos (getD ws 2 0) *ℤ D 2 +ℤ pos (getD ws 3 0) *ℤ D 3 +ℤ pos (getD ws 4 0) *ℤ D 4

@@ -1,4 +1,4 @@
--- Shares and fusion: green at a red or blue pixel, from its directions. K is the share scale (2^27), T the total of the five-sum's weights (5).
+-- Shares and fusion (source 004, equations 9, 10 and 12): green at a red or blue pixel, from its directions. K is the share scale (2^27), T the total of the five-sum's weights (5).
 -- Over a first direction d and any list l of others, of which document 01 has three. Assumes nothing.
 use Prim.Native.Nat.{ℕ, _+_, _*_, _/_, _≤_, _<_, min}
 use mathlib.Core.List.{List, [], _∷_}
@@ -13,7 +13,7 @@ abbrev pub smallest : Direction → List Direction → ℕ
 smallest d [] = t d
 smallest d (e ∷ l) = min (t d) (smallest e l)
 
--- a direction's share: the floor of K m² / t²
+-- document 01's share q of a direction: the floor of K m² / t². The weight of equation 10 is 1 / t²
 abbrev pub share : (K m t : ℕ) → ℕ
 share K m t = K * (m * m) / (t * t)
 
@@ -27,11 +27,11 @@ abbrev pub sharedDifferences : (K m : ℕ) → List Direction → ℤ
 sharedDifferences K m [] = pos 0
 sharedDifferences K m (d ∷ l) = pos (share K m (t d)) *ℤ d .differences +ℤ sharedDifferences K m l
 
--- what fusion adds: the floor of (8N + TS) / (2TS)
+-- what fusion adds: the floor of (8N + TS) / (2TS). The mean of equation 9, in units, is 4N / (TS)
 unfoldable pub fusion : (N : ℤ) (S T : ℕ) → ℤ
 fusion N S T = floorDiv (pos 8 *ℤ N +ℤ pos (T * S)) (2 * (T * S))
 
--- green in units, c the reading
+-- green in units, c the reading (equation 12), clamped: document 01 says "stopped"
 unfoldable pub green : (K T c : ℕ) → Direction → List Direction → ℕ
 green K T c d l =
     let m = smallest d l in

@@ -46,6 +46,7 @@ threeFrom G j = G j ∷ G (j +ℤ pos 1) ∷ G (j +ℤ pos 2) ∷ []
 abbrev pub window : (G : ℤ → ℤ → ℕ) (i j : ℤ) → List (List ℕ)
 window G i j = threeFrom (G i) j ∷ threeFrom (G (i +ℤ pos 1)) j ∷ threeFrom (G (i +ℤ pos 2)) j ∷ []
 
+-- the four directions. Source 004's equation 9 prints the five-sums of east and west crossed; source 000, equation 31, decides
 module _ (ws : List ℕ) (m : Mosaic) (i j : ℤ) where
   abbrev pub east : Direction
   east = direction (fiveSum ws (λ k. DH m i (j +ℤ pos k))) (directionSum (window (GH m) (i -ℤ pos 1) j))

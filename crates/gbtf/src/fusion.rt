@@ -58,28 +58,28 @@ fn raised(n: i64, h: u64) -> i64
     8 * n + h as i64
 }
 
-// What fusion adds to 16c: n the sum of shares times five-sums, s the sum of shares, t the weights' total.
-fn fusion(n: i64, s: u64, t: u64) -> i64
-    requires { ⌜ (natAbs n ≤ 1125899906842624) × (t ≤ 128) × (s ≤ 536870912) ⌝ }
-    ensures { λ f. ⌜ f ≡ fusion n s t ⌝ }
+// What fusion adds to 16c: n the sum of shares times five-sums, s the sum of shares, and the weights' total.
+fn fusion(n: i64, s: u64, total: u64) -> i64
+    requires { ⌜ (natAbs n ≤ 1125899906842624) × (total ≤ 128) × (s ≤ 536870912) ⌝ }
+    ensures { λ f. ⌜ f ≡ fusion n s total ⌝ }
 {
-    let ts = t * s;
+    let ts = total * s;
     whole::div_floor(raised(n, ts), 2 * ts)
 }
 
-// Green in units at a red or blue pixel of reading c, at share scale k and weights of total t.
+// Green in units at a red or blue pixel of reading c, at share scale k, with the weights' total.
 pub fn green(
     k: u64,
-    t: u64,
+    total: u64,
     c: u16,
     east: Direction,
     west: Direction,
     north: Direction,
     south: Direction,
 ) -> u16
-    requires { ⌜ (0 < k) × (k ≤ 134217728) × (t ≤ 128) ⌝ }
+    requires { ⌜ (0 < k) × (k ≤ 134217728) × (total ≤ 128) ⌝ }
     requires { ⌜ (Fitting k east) × (Fitting k west) × (Fitting k north) × (Fitting k south) ⌝ }
-    ensures { λ g. ⌜ g ≡ green k t c east (west ∷ north ∷ south ∷ []) ⌝ }
+    ensures { λ g. ⌜ g ≡ green k total c east (west ∷ north ∷ south ∷ []) ⌝ }
 {
     let m = smallest(east, west, north, south);
     let e = share_of(k, m, east);
@@ -87,5 +87,5 @@ pub fn green(
     let n = share_of(k, m, north);
     let s = share_of(k, m, south);
     let a = shared(e, east) + shared(w, west) + (shared(n, north) + shared(s, south));
-    whole::clamp((16 * (c as u64)) as i64 + fusion(a, e + w + n + s, t))
+    whole::clamp((16 * (c as u64)) as i64 + fusion(a, e + w + n + s, total))
 }

@@ -1,4 +1,4 @@
-// Green by gradient-based threshold-free fusion, GBTF: the numbers of one pixel.
+// Green by GBTF, the gradient based threshold free method: the numbers of one pixel.
 pub mod difference;
 pub mod direction;
 pub mod fusion;

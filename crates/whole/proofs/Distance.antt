@@ -1,4 +1,4 @@
--- What fractions and their distance mean: a quotient of whole numbers; |x − y| ≤ k/100, in ℤ and with nothing rounded. Nothing rests on this file. Assumes nothing.
+-- What fractions and their distance mean: a quotient of whole numbers; |x − y| ≤ k/100, in ℤ and with nothing rounded. Assumes nothing.
 use mathlib.Core.Path.{_≡_, ap}
 use mathlib.Core.Logic.{_↔_}
 use Prim.Native.Nat.{ℕ, _+_, _*_, _≤_, _<_}

@@ -1,6 +1,6 @@
 -- Laws of `floorDiv` and `clamp`. The floor f of z / d is the only one with f d ≤ z < (f + 1) d. Assumes nothing.
 use mathlib.Core.Path.{_≡_, refl, sym}
-use Prim.Native.Nat.{ℕ, suc, _+_, _*_, _-_, _/_, _≤_, _<_}
+use Prim.Native.Nat.{ℕ, suc, _+_, _*_, _≤_, _<_}
 use native.Mathlib.Nat.{div-add-mod', mod-lt, mul-pos, mul-le-mul-left, mul-le-mul-right, mul-lt-mul-of-pos-left, div-le-self}
 use native.Mathlib.Decide.{decLe}
 use native.Mathlib.Omega.{arith}

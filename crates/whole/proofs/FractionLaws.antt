@@ -1,21 +1,20 @@
 -- Laws of fractions and of their distance. Each is shown for one side, `AtMost`, and paired. Assumes nothing.
 use mathlib.Core.Path.{_≡_, refl, ap}
-use Prim.Native.Nat.{ℕ, zero, suc, _+_, _*_, _-_, _≤_, _<_, min}
+use Prim.Native.Nat.{ℕ, _+_, _*_, _-_, _≤_, _<_}
 use native.Mathlib.Nat.{mul-le-mul-left, le-of-mul-le-mul-left, add-comm, add-zero, zero-add}
 use native.Mathlib.Decide.{decLe}
 use native.Mathlib.Omega.{arith}
 use lib.IntN.{ℤ, pos, negsuc, _+ℤ_}
+use Rattle.whole.specs.Floor.{floorDiv}
 use Rattle.whole.specs.Clamp.{clamp}
-use Rattle.whole.specs.Fraction.{Fraction, integer, natural, _+ᶠ_, _-ᶠ_, negᶠ, dividedBy, clampᶠ, AtMost, Within, Same}
+use Rattle.whole.specs.Fraction.{Fraction, ratio, integer, natural, _+ᶠ_, _-ᶠ_, negᶠ, dividedBy, clampᶠ, AtMost, Within, Same}
 use Rattle.whole.proofs.Pairs.{+ℤ-up}
+use Rattle.whole.proofs.FloorLaws.{floor-low, floor-high}
 
 -- ---- sums of inequalities, by equations
 
 pub add-up : {A B C D G H : ℕ} (c : ℕ) → A ≤ B → C ≤ D → A + C ≡ G + c → B + D ≡ H + c → G ≤ H
 add-up c h k e f = omega arith
-
-pub by-eq : {A B G H : ℕ} → A ≤ B → A ≡ G → B ≡ H → G ≤ H
-by-eq h e f = omega arith
 
 -- ---- one side
 
@@ -75,9 +74,6 @@ atmost-clamp x y a b h = go (decLe (65520 * y .under) (y .plus - y .minus)) (dec
 
 -- ---- both sides
 
-pub within-sym : {x y : Fraction} {a b : ℕ} → Within x y a b → Within y x a b
-within-sym h = record { low = h .high; high = h .low }
-
 pub within-trans : {x y z : Fraction} {a c b : ℕ} → Within x y a b → Within y z c b → Within x z (a + c) b
 within-trans {x} {y} {z} {a} {c} {b} h k = record { low = atmost-trans x y z a c b (h .low) (k .low); high = rw (add-comm a c) (atmost-trans z y x c a b (k .high) (h .high)) }
 
@@ -103,7 +99,7 @@ within-same {x} {y} b e = record { low = atmost-same x y b e; high = atmost-same
 pub within-wider : {x y : Fraction} {a b : ℕ} (c d : ℕ) → 0 < b → a * d ≤ c * b → Within x y a b → Within x y c d
 within-wider {x} {y} {a} {b} c d p h k = record { low = atmost-wider x y a b c d p h (k .low); high = atmost-wider y x a b c d p h (k .high) }
 
--- one number may be put for the same one on either side (the two are named: `Same` does not show them integer)
+-- one number may be put for the same one on either side (the two are named, since `Same` does not determine them)
 pub within-from : (x y : Fraction) {z : Fraction} {a b : ℕ} → Same x y → Within y z a b → Within x z a b
 within-from x y {z} {a} {b} e h = rw (zero-add a) at (within-trans {x = x} {y = y} {z = z} {a = 0} (within-same {x = x} {y = y} b e) h)
 
@@ -127,3 +123,7 @@ clamp-is (negsuc n) = omega arith
 
 pub sum-is : (c : ℕ) (z : ℤ) → Same (integer (pos c +ℤ z)) (natural c +ᶠ integer z)
 sum-is c z = omega (arith, +ℤ-up (pos c) z)
+
+-- rounding to the nearest: the floor of (z + h) / (2h) is within 1/2 of z / (2h)
+pub rounded-near : (z : ℤ) (h : ℕ) (p : 0 < 2 * h) → Within (integer (floorDiv (z +ℤ pos h) (2 * h))) (ratio z (2 * h) p) 1 2
+rounded-near z h p = record { low = omega (arith, floor-low (z +ℤ pos h) (2 * h) p, +ℤ-up z (pos h)); high = omega (arith, floor-high (z +ℤ pos h) (2 * h) p, +ℤ-up z (pos h)) }

@@ -4,3 +4,4 @@ pub mod FloorLaws
 pub mod Signed
 pub mod FractionLaws
 pub mod Distance
+pub mod Lists

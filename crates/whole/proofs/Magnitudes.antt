@@ -1,7 +1,7 @@
 -- Magnitudes: bounds in the naturals for a sum, a difference, a product, a quotient, and what they say of a signed type's range.
 -- Assumes nothing.
 use mathlib.Core.Path.{_≡_, refl, subst}
-use Prim.Native.Nat.{ℕ, zero, suc, _+_, _*_, _-_, _^_, _<_, _≤_}
+use Prim.Native.Nat.{ℕ, zero, suc, _+_, _*_, _^_, _<_, _≤_}
 use native.Mathlib.Nat.{le-trans, lt-of-le-of-lt, le-refl, le-of-eq, mul-le-mul}
 use native.Mathlib.Omega.{arith}
 use lib.IntN.{ℤ, pos, negsuc, negℤ, subℕ, natAbs, _+ℤ_, _-ℤ_, _*ℤ_}
@@ -9,7 +9,6 @@ use lib.Signed.{mag}
 use mir.Syntax.{Width}
 use mir.Val.{SFits, hbits}
 use Rattle.whole.proofs.Pairs.{sub-ind}
-use Rattle.whole.specs.Parts.{up, down}
 
 abs-sub : (a b : ℕ) → natAbs (subℕ a b) ≤ a + b
 abs-sub a b = sub-ind (λ z. natAbs z ≤ a + b) a b (λ h. omega arith) (λ h. omega arith)
@@ -33,11 +32,6 @@ abs-mul (pos a) (pos b) = refl
 abs-mul (pos a) (negsuc b) = abs-neg (pos (a * suc b))
 abs-mul (negsuc a) (pos b) = abs-neg (pos (suc a * b))
 abs-mul (negsuc a) (negsuc b) = refl
-
--- the magnitude in terms of the two naturals
-pub abs-up-down : (x : ℤ) → natAbs x ≡ up x + down x
-abs-up-down (pos n) = omega arith
-abs-up-down (negsuc n) = omega arith
 
 -- within bounds
 pub add-within : (x y : ℤ) {m k : ℕ} → natAbs x ≤ m → natAbs y ≤ k → natAbs (x +ℤ y) ≤ m + k

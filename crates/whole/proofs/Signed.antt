@@ -8,13 +8,13 @@
 --     value e              the machine's reading of e is what it means
 -- Assumes nothing.
 use mathlib.Core.Path.{_≡_, refl, sym, _∙_, ap, ap₂, subst}
-use mathlib.Core.Bool.{Bool, true, false, not, _&&_}
-use Prim.Native.Nat.{ℕ, zero, suc, _+_, _*_, _-_, _^_, _<_, _≤_}
+use mathlib.Core.Bool.{Bool, true, false, _&&_}
+use Prim.Native.Nat.{ℕ, zero, suc, _+_, _*_, _^_, _<_, _≤_}
 use native.Mathlib.Nat.{le-trans, lt-of-le-of-lt, le-refl, le-of-eq, zero-add}
 use native.Mathlib.Omega.{arith}
-use borrow.Author.Tests.{ltb-true, leb-false}
-use lib.Dec.{T, ltb, ltb→lt, lt→ltb, lit<}
-use lib.Signed.{mag, mag-shr, shrZ, ltZ, leZ, nonNeg, _≤ℤ_, _<ℤ_, ltZ-no, pos-natAbs, yes-nonNeg}
+use borrow.Author.Tests.{ltb-true}
+use lib.Dec.{T, ltb, ltb→lt, lit<}
+use lib.Signed.{mag, mag-shr, shrZ, ltZ, nonNeg}
 use lib.IntN.{ℤ, pos, negsuc, natAbs, _+ℤ_, _-ℤ_, _*ℤ_}
 use mir.Syntax.{Width, w32, w64}
 use mir.Val.{Fits, SFits, hbits, ofZ, toZ}
@@ -161,32 +161,6 @@ asked {w} e t = subst (SFits w) (sym (made-val e t)) (fits e t)
 -- a call's signed result (`c .CALL .ok`, `c .CALL .ensures`), passed on or returned: it is read back from its bits
 pub read-result : (w : Width) (r : ℤ) {z : ℤ} → mag r < 2 ^ hbits w → r ≡ z → toZ w (ofZ w r) ≡ z
 read-result w r h e = toZ-ofZ w r (record { sfits = h }) ∙ e
-
--- ---- the tests of the code, as orders of integers: what the machine read on each side (`value e tt`, `toZ-ofZ`), and the flag
-pub lt-taken : {a b x y : ℤ} → a ≡ x → b ≡ y → ltZ a b ≡ true → x <ℤ y
-lt-taken p q e = record { lt = subst T (sym e ∙ ap₂ ltZ p q) tt }
-
-pub lt-left : {a b x y : ℤ} → a ≡ x → b ≡ y → ltZ a b ≡ false → y ≤ℤ x
-lt-left p q e = ltZ-no (subst (λ (u : Bool). T (not u)) (sym e ∙ ap₂ ltZ p q) tt)
-
-pub le-taken : {a b x y : ℤ} → a ≡ x → b ≡ y → leZ a b ≡ true → x ≤ℤ y
-le-taken p q e = record { le = subst T (sym e ∙ ap₂ leZ p q) tt }
-
-not-le : (x y : ℤ) → leZ x y ≡ false → y <ℤ x
-not-le (pos m) (pos n) f = record { lt = lt→ltb n m (leb-false m n f) }
-not-le (pos m) (negsuc n) f = record { lt = tt }
-not-le (negsuc m) (pos n) f = absurd (subst T f tt)
-not-le (negsuc m) (negsuc n) f = record { lt = lt→ltb m n (leb-false n m f) }
-
-pub le-left : {a b x y : ℤ} → a ≡ x → b ≡ y → leZ a b ≡ false → y <ℤ x
-le-left {x} {y} p q e = not-le x y (sym (ap₂ leZ p q) ∙ e)
-
-pub nonneg-is : {z : ℤ} → pos 0 ≤ℤ z → z ≡ pos (natAbs z)
-nonneg-is {z} h = sym (pos-natAbs z (yes-nonNeg h))
-
--- an equation of bits, as `==` gives it
-pub same-bits : {w : Width} (x y : ℤ) → SFits w x → SFits w y → ofZ w x ≡ ofZ w y → x ≡ y
-same-bits {w} x y f g e = sym (toZ-ofZ w x f) ∙ ap (toZ w) e ∙ toZ-ofZ w y g
 
 -- ---- a test against zero, and casts. `mag z` is n at n and at −(n+1), and a signed value's range is a bound on it
 pub neg-of : (z : ℤ) → ltZ z (pos 0) ≡ true → z ≡ negsuc (mag z)

@@ -46,7 +46,7 @@ Above0 y = y .minus < y .plus
 abbrev pub quotient : (x y : Fraction) → Above0 y → Fraction
 quotient x y h = record { plus = x .plus * y .under; minus = x .minus * y .under; under = x .under * (y .plus - y .minus); proper = mul-pos (x .proper) (omega arith) }
 
--- 0 if below 0, 65520 if above 65520
+-- 0 if below 0, 65520 if above; document 01 says "stopped"
 abbrev pub clampᶠ : Fraction → Fraction
 clampᶠ x = record { plus = min (x .plus - x .minus) (65520 * x .under); minus = 0; under = x .under; proper = x .proper }
 

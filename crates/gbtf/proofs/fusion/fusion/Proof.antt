@@ -14,7 +14,7 @@ use borrow.Author.Needs.{needs}
 use Rattle.gbtf.proofs.fusion.fusion.Statement.{statement}
 use Rattle.gbtf.proofs.fusion.fusion.Tie as tie
 
-small : (c : tie.Start) → c .args .t * c .args .s ≤ 68719476736
+small : (c : tie.Start) → c .args .total * c .args .s ≤ 68719476736
 small c = mul-le-mul (c .pre .1) (c .pre .2)
 
 passed : (c : tie.Start) → toZ w64 (ofZ w64 (c .args .n)) ≡ c .args .n
@@ -40,7 +40,7 @@ unfolding fusion
 returns c =
     let r = c .before in
     let s = r .before in
-    let ts = s .args .t * s .args .s in
+    let ts = s .args .total * s .args .s in
     read-result w64 _ (c .div-floor .ok) (c .div-floor .ensures)
     ∙ ap (λ z. floorDiv z (2 * ts)) (read-result w64 _ (r .raised .ok) (numerator _ ts (passed s) (r .raised .ensures) (omega arith)))
 

@@ -122,8 +122,8 @@ returns c =
     let m = q₁ .before in
     let a = m .before .args in
     c .clamp .ensures
-    ∙ ap clamp (value (units f) tt ∙ ap (λ z. pos (16 * a .c) +ℤ z) (f .fusion .ensures ∙ ap (λ z. fusion z (q₁ .share-of .result + q₂ .share-of2 .result + q₃ .share-of3 .result + q₄ .share-of4 .result) (a .t)) (value (four p₄) tt)))
-    ∙ green-is (a .k) (a .t) (a .c) (a .east) (a .west) (a .north) (a .south) (m .smallest .ensures)
+    ∙ ap clamp (value (units f) tt ∙ ap (λ z. pos (16 * a .c) +ℤ z) (f .fusion .ensures ∙ ap (λ z. fusion z (q₁ .share-of .result + q₂ .share-of2 .result + q₃ .share-of3 .result + q₄ .share-of4 .result) (a .total)) (value (four p₄) tt)))
+    ∙ green-is (a .k) (a .total) (a .c) (a .east) (a .west) (a .north) (a .south) (m .smallest .ensures)
     (q₁ .share-of .ensures .0) (q₂ .share-of2 .ensures .0) (q₃ .share-of3 .ensures .0) (q₄ .share-of4 .ensures .0)
     (p₁ .shared .ensures .0) (p₂ .shared2 .ensures .0) (p₃ .shared3 .ensures .0) (p₄ .shared4 .ensures .0)
 
