@@ -3,4 +3,12 @@ pub const SIZE_OUT_OF_RANGE: u32 = 1;
 
 pub const UNKNOWN_LAYOUT: u32 = 2;
 
+pub const ROWS_OUTSIDE_FRAME: u32 = 3;
+
+pub const WRONG_PIECE_LENGTH: u32 = 4;
+
+pub const WRONG_PLANE_LENGTH: u32 = 5;
+
+pub const READING_OUT_OF_RANGE: u32 = 6;
+
 pub const ROW_MISSING: u32 = 7;

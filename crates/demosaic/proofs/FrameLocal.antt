@@ -69,7 +69,7 @@ module _ (ws : List ℕ) (f : Frame) (first other : ℕ) (xs ys : List ℕ) (i :
 -- a strip of n rows from row a, and one of its rows
 module _ (f : Frame) (a n i : ℕ) (hH : 8 ≤ f .height) (hn : a + n ≤ f .height) (low : a ≤ i) (high : i < a + n) where
   -- the piece has every row that is read for row i
-  in-piece : (r : ℤ) → Near 7 (pos i) r → (pieceStart a ≤ mirror (f .height) r) × (mirror (f .height) r < pieceEnd (f .height) a n)
+  pub in-piece : (r : ℤ) → Near 7 (pos i) r → (pieceStart a ≤ mirror (f .height) r) × (mirror (f .height) r < pieceEnd (f .height) a n)
   in-piece (pos p) h = rw (mirror-is (f .height) (pos p) (omega arith)) (omega arith)
   in-piece (negsuc k) h = rw (mirror-is (f .height) (negsuc k) (omega arith)) (omega arith)
 

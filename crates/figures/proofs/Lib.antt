@@ -1,1 +1,2 @@
 pub mod FigureTable
+pub mod NotFifty

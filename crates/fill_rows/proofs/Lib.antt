@@ -1,0 +1,3 @@
+pub mod SideLaws
+pub mod RowColours
+pub mod FillRowLaws

@@ -1,0 +1,31 @@
+-- What is read at a position of a row or a column, just before it and just after it. Assumes nothing.
+use Prim.Native.Nat.{ℕ, _+_, _≤_, _<_}
+use mathlib.Core.Path.{_≡_, refl, sym, ap}
+use native.Mathlib.Omega.{arith}
+use lib.Dec.{lit≤}
+use lib.IntN.{ℤ, pos, subℕ, _+ℤ_, _-ℤ_}
+use Rattle.whole.proofs.Pairs.{sub-pos}
+use Rattle.bayer.specs.Mirror.{mirror}
+use Rattle.bayer.proofs.MirrorLaws.{mirror-near, mirror-lt, mirror-inside}
+
+-- it lies inside
+pub side-in : (size at lead : ℕ) → 2 ≤ size → at ≤ size → lead ≤ 1 → mirror size (subℕ at lead) < size
+side-in size at lead h k l = mirror-lt size (subℕ at lead) (omega arith) (mirror-near size at lead (omega arith) (omega arith))
+
+-- n, inside, is read for position z
+abbrev pub Read : (size n : ℕ) (z : ℤ) → Type 0
+Read size n z = (n ≡ mirror size z) × (n < size)
+
+module _ (size p : ℕ) (h : 2 ≤ size) (k : p < size) where
+  pub at-read : Read size p (pos p)
+  at-read = (sym (mirror-inside size p k), k)
+
+  pub before-read : Read size (mirror size (subℕ p 1)) (pos p -ℤ pos 1)
+  before-read = (refl, side-in size p 1 h (omega arith) (lit≤ tt))
+
+  -- just after it, in the code's form and in the definitions'
+  pub after-read : Read size (mirror size (subℕ (p + 1) 0)) (pos p +ℤ pos 1)
+  after-read = (ap (mirror size) (sub-pos (p + 1) 0 (p + 1) (omega arith)), side-in size (p + 1) 0 h (omega arith) (lit≤ tt))
+
+  pub next-read : Read size (mirror size (pos p +ℤ pos 1)) (pos p +ℤ pos 1)
+  next-read = (refl, mirror-lt size (pos (p + 1)) (omega arith) (omega arith))

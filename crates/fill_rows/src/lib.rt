@@ -1,0 +1,2 @@
+// Red and blue a row at a time.
+pub mod rows;

@@ -1,0 +1,69 @@
+-- Bounds on what stands in the buffers. Assumes nothing.
+use Prim.Native.Nat.{ℕ, zero, suc, _+_, _-_, _*_, _≤_}
+use mathlib.Core.List.{List, [], _∷_, _++_}
+use mathlib.Core.Path.{sym, subst}
+use native.Mathlib.Decide.{decLe}
+use native.Mathlib.Omega.{arith}
+use lib.IntN.{ℤ, pos, natAbs, subℕ}
+use lib.ListN.{take, drop, getD, length-take, List·getD-eq-default}
+use lib.Seq.{getD-take, getD-drop}
+use Rattle.bayer.specs.declared.frame.Frame.{Frame}
+use Rattle.bayer.specs.Mirror.{mirror}
+use Rattle.bayer.specs.View.{rowOf}
+use Rattle.gbtf.specs.Direction.{direction, directionSum, fiveSum}
+use Rattle.gbtf.specs.Fusion.{Fitting}
+use Rattle.gbtf.proofs.PixelLaws.{difference-within, gradient-within, direction-sum-within, five-sum-within, fitting}
+use Rattle.green_rows.specs.Table.{table, joined}
+use Rattle.green_rows.specs.Buffer.{differenceIn, gradientIn, windowIn, scale, evenWeights, isOdd, AllAtMost, AllWithin}
+use Rattle.green_rows.specs.Extended.{extendedRow}
+use Rattle.green_rows.proofs.TableLaws.{table-all}
+
+-- ---- P of every entry, and of d, which is read past the end
+module _ {A : Type 0} (P : A → Type 0) (d : A) (past : P d) where
+  abbrev All : List A → Type 0
+  All l = (k : ℕ) → P (getD l k d)
+
+  pub all-take : (n : ℕ) (l : List A) → All l → All (take n l)
+  all-take n l h k =
+      elim (decLe (suc k) n) [
+        | yes g ↦ subst P (sym (getD-take n l k d g)) (h k)
+        | no g ↦ subst P (sym (List·getD-eq-default (take n l) d {n = k} (rw (length-take n l) (omega arith)))) past
+      ]
+
+  pub all-drop : (n : ℕ) (l : List A) → All l → All (drop n l)
+  all-drop n l h k = subst P (sym (getD-drop n l k d)) (h (n + k))
+
+  pub all-append : (xs ys : List A) → All xs → All ys → All (xs ++ ys)
+  all-append [] ys h g k = g k
+  all-append (x ∷ xs) ys h g zero = h 0
+  all-append (x ∷ xs) ys h g (suc k) = all-append xs ys (λ j. h (suc j)) g k
+
+  pub all-joined : (f : ℕ → List A) (n : ℕ) → ((j : ℕ) → All (f j)) → All (joined f n)
+  unfolding joined
+  all-joined f zero h k = past
+  all-joined f (suc n) h k = all-append (joined f n) (f n) (all-joined f n h) (h n) k
+
+-- ---- rows of readings
+pub row-at-most : (w i : ℕ) (rows : List ℕ) {m : ℕ} → AllAtMost m rows → AllAtMost m (rowOf w i rows)
+unfolding rowOf
+row-at-most w i rows {m} h = all-take (λ x. x ≤ m) 0 (omega arith) w _ (all-drop (λ x. x ≤ m) 0 (omega arith) (i * w) rows h)
+
+pub extended-at-most : (f : Frame) (first : ℕ) (rows : List ℕ) (v s n : ℕ) {m : ℕ} → AllAtMost m rows → AllAtMost m (joined (extendedRow f first rows v s) n)
+extended-at-most f first rows v s n {m} h =
+    all-joined (λ x. x ≤ m) 0 (omega arith) (extendedRow f first rows v s) n (λ r. table-all (λ x. x ≤ m) _ s (omega arith) (λ c _. row-at-most (f .width) (mirror (f .height) (subℕ (v + r) 6) - first) rows h _))
+
+-- ---- differences and gradients
+pub differences-within : (step odd : ℕ) (x : List ℕ) (n : ℕ) → AllAtMost 4095 x → AllWithin 16380 (table (differenceIn step odd x) n)
+differences-within step odd x n h =
+    table-all (λ d. natAbs d ≤ 16380) (differenceIn step odd x) n (omega arith)
+    (λ k _. difference-within (isOdd (k + odd)) (record { centre = h _; left = h _; right = h _; second = h _; other = h _ }))
+
+pub gradients-at-most : (step : ℕ) (d : List ℤ) (n : ℕ) → AllWithin 16380 d → AllAtMost 32760 (table (gradientIn step d) n)
+gradients-at-most step d n h =
+    table-all (λ g. g ≤ 32760) (gradientIn step d) n (omega arith) (λ k _. gradient-within (getD d k (pos 0)) (getD d (k + 2 * step) (pos 0)) (h k) (h (k + 2 * step)))
+
+-- ---- five differences, at the places that `at` gives, and a window of gradients keep inside 64 bits
+pub fitting-in : (d : List ℤ) (g : List ℕ) (at : ℕ → ℕ) (s q : ℕ) → AllWithin 16380 d → AllAtMost 32760 g
+    → Fitting scale (direction (fiveSum evenWeights (λ k. getD d (at k) (pos 0))) (directionSum (windowIn s g q)))
+fitting-in d g at s q h k =
+    fitting _ (five-sum-within evenWeights (λ i. getD d (at i) (pos 0)) (λ i. h (at i))) (direction-sum-within (k _) (k _) (k _) (k _) (k _) (k _) (k _) (k _) (k _))

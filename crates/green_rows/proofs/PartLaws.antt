@@ -1,0 +1,32 @@
+-- Parts of a list, as the code takes them to lend to calls. Assumes nothing.
+use Prim.Native.Nat.{ℕ, _+_, _-_, _*_, _≤_}
+use mathlib.Core.List.{List, _++_, append-nil}
+use mathlib.Core.Path.{_≡_}
+use native.Mathlib.Nat.{add-sub-cancel-left}
+use native.Mathlib.Omega.{arith}
+use lib.ListN.{length, take, drop, length-append, length-drop, drop-of-length-le}
+use lib.Seq.{length-take-le, take-all, take-at, drop-at}
+use Rattle.bayer.specs.View.{rowOf}
+
+module _ {A : Type 0} where
+  -- k entries from the a-th on
+  pub part-length : (a k : ℕ) (l : List A) → a + k ≤ length l → length (take (a + k - a) (drop a l)) ≡ k
+  part-length a k l h = rw (add-sub-cancel-left a k) (length-take-le k (drop a l) (rw (length-drop a l) (omega arith)))
+
+  -- of two lists, one after the other, the first n entries and the others
+  pub first-part : (n k : ℕ) (p q : List A) {l : List A} → l ≡ p ++ q → length p ≡ n → k ≡ n → take k l ≡ p
+  first-part n k p q e h i = rw (e, i) (take-at p q n h)
+
+  pub other-part : (n : ℕ) (p q : List A) {l : List A} → l ≡ p ++ q → length p ≡ n → take (length l - n) (drop n l) ≡ q
+  other-part n p q e h = rw (e, drop-at p q n h) (take-all (length (p ++ q) - n) q (rw (length-append p q) (omega arith)))
+
+  -- the others are handed on, and then hold r
+  pub put-rest : (n : ℕ) (p q r : List A) → length p ≡ n → take n (p ++ q) ++ (r ++ drop (length (p ++ q) - n) (drop n (p ++ q))) ≡ p ++ r
+  put-rest n p q r h =
+      let l : length q ≤ length (p ++ q) - n = rw (length-append p q) (omega arith) in
+      rw (take-at p q n h, drop-at p q n h, drop-of-length-le q l, append-nil r)
+
+-- row j of those that are w wide
+pub row-is : (w j : ℕ) (rows : List ℕ) {k : ℕ} → k ≡ j → take (k * w + w - k * w) (drop (k * w) rows) ≡ rowOf w j rows
+unfolding rowOf
+row-is w j rows {k} e = rw (add-sub-cancel-left (k * w) w, e)

@@ -1,0 +1,27 @@
+-- Rows of readings, continued by the mirrors. Assumes nothing.
+use Prim.Native.Nat.{ℕ, _+_, _-_, _*_, _≤_, _<_}
+use mathlib.Core.List.{List}
+use lib.IntN.{subℕ}
+use lib.ListN.{length, getD}
+use Rattle.bayer.specs.declared.frame.Frame.{Frame}
+use Rattle.bayer.specs.Mirror.{mirror}
+use Rattle.bayer.specs.View.{rowOf}
+use Rattle.green_rows.specs.Table.{table}
+
+-- place c of a row is column c − 7
+abbrev pub column : (row : List ℕ) (c : ℕ) → ℕ
+column row c = getD row (mirror (length row) (subℕ c 7)) 0
+
+-- row v − 6 + r of the continued mosaic, s places of it; rows holds the frame's from row `first` on
+abbrev pub extendedRow : Frame → (first : ℕ) (rows : List ℕ) (v s r : ℕ) → List ℕ
+extendedRow f first rows v s r = table (column (rowOf (f .width) (mirror (f .height) (subℕ (v + r) 6) - first) rows)) s
+
+-- a frame of a size that is not refused, and so many readings from row `first` on that rows v − 6 to v + 6 of its continuation are among them
+pub record Lent (f : Frame) (first length v : ℕ) : Type 0 where
+  pub wide : 8 ≤ f .width
+  pub narrow : f .width ≤ 4096
+  pub high : 8 ≤ f .height
+  pub low : f .height ≤ 4096
+  pub row : v < f .height
+  pub start : (r : ℕ) → r < 13 → first ≤ mirror (f .height) (subℕ (v + r) 6)
+  pub end : (r : ℕ) → r < 13 → (mirror (f .height) (subℕ (v + r) 6) - first + 1) * f .width ≤ length

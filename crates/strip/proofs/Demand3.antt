@@ -1,0 +1,164 @@
+-- DEMAND 3: after any list of strip calls over one frame, each of which keeps the contract, every covered row is within the printed error, and every other row is as before.
+-- And what users cite beside it: no seams, and no trace of what a plane held before. Assumes nothing.
+use mathlib.Core.Path.{_≡_, refl, sym, _∙_, ap, ap₂, subst}
+use mathlib.Core.Logic.{inl, inr}
+use mathlib.Core.List.{List, [], _∷_, map}
+use Prim.Native.Nat.{ℕ, zero, suc, _+_, _*_, _-_, _≤_, _<_}
+use native.Mathlib.Omega.{arith}
+use lib.Dec.{lit≤}
+use lib.IntN.{ℤ, pos}
+use lib.ListN.{length, getD, take, drop, length-drop}
+use lib.Seq.{length-take-le, getD-take, getD-drop}
+use Rattle.whole.specs.Fraction.{natural, Within}
+use Rattle.bayer.specs.declared.colour.Colour.{Colour}
+use Rattle.bayer.specs.declared.colour.Colour.the-variants.{Red, Green, Blue}
+use Rattle.bayer.specs.declared.frame.Frame.{Frame}
+use Rattle.bayer.specs.Colour.{colourAt, same}
+use Rattle.bayer.specs.Piece.{pieceStart, pieceOf}
+use Rattle.bayer.specs.Mirror.{mirror}
+use Rattle.bayer.specs.View.{rowOf}
+use Rattle.bayer.proofs.MirrorLaws.{mirror-inside}
+use Rattle.calls.specs.Calls.{Planes, stretch, put, Call, accepted, refused, Rows, Step, Runs, Covers, Covered, After}
+use Rattle.calls.proofs.CallList.{after-calls}
+use Rattle.gbtf.specs.Mosaic.{Mosaic, continued}
+use Rattle.gbtf.specs.GreenAt.{greenAt}
+use Rattle.demosaic.specs.Sample.{otherFrom, sampleFrom, sample, scale, evenWeights}
+use Rattle.demosaic.specs.Exact.{exactSample, printed}
+use Rattle.demosaic.proofs.SampleError.{printed-error}
+use Rattle.demosaic.proofs.FrameLocal.{piece-sample, piece-exactSample}
+use Rattle.strip.specs.Strip.{stripPlane, left, Promise}
+use Rattle.strip.specs.Demand.{StripCall, numberOf, Accepted, OfFrame, Called, CalledAll, CoveredBy, Demanded}
+use Rattle.strip.proofs.StripLaws.{Fits, fits, plane-length, plane-at}
+
+-- plane k of what a call leaves
+promised : {f : Frame} {a n : ℕ} {piece : List ℕ} {lent after : Colour → List ℕ} {answer : ℕ} → Promise f a n piece lent answer after → (k : Colour) → after k ≡ left answer (stripPlane f a n piece k) (lent k)
+promised p Red = p .red
+promised p Green = p .green
+promised p Blue = p .blue
+
+abbrev lent : StripCall → Planes → Colour → List ℕ
+lent c p k = stretch (c .from k) (c .size k) (p k)
+
+-- the calls, told apart
+abbrev callBy : ℕ → StripCall → Call
+callBy zero c = accepted (c .first) (c .count)
+callBy (suc n) c = refused (c .from) (c .size)
+
+abbrev callOf : StripCall → Call
+callOf c = callBy (numberOf c) c
+
+-- in the plane of its own colour, and for green, a pixel has 16 times its reading
+own-colour : (K : ℕ) (ws : List ℕ) (f : Frame) (m : Mosaic) (k : Colour) (i j : ℤ) → m .colour i j ≡ k → sampleFrom f m (λ i j. greenAt ws m i j K) k i j ≡ 16 * m .reading i j
+unfolding otherFrom greenAt
+own-colour K ws f m Red i j e = rw e
+own-colour K ws f m Green i j e = rw e
+own-colour K ws f m Blue i j e = rw e
+
+row-reading : (w r : ℕ) (l : List ℕ) (c : ℕ) → c < w → getD (rowOf w r l) c 0 ≡ getD l (r * w + c) 0
+unfolding rowOf
+row-reading w r l c h = getD-take w (drop (r * w) l) c 0 h ∙ getD-drop (r * w) l c 0
+
+module _ (f : Frame) (readings : List ℕ) where
+  abbrev rule : Colour → ℕ → ℕ → ℕ
+  rule k i j = sample scale evenWeights f 0 readings k i j
+
+  lent-length : (c : StripCall) {p q : Planes} → Called f readings c p q → (k : Colour) → length (lent c p k) ≡ c .size k
+  lent-length c {p} d k = length-take-le (c .size k) (drop (c .from k) (p k)) (simp length-drop (omega (arith, d .inside k)))
+
+  answers : (c : StripCall) {p q : Planes} (d : Called f readings c p q) → d .answer ≡ numberOf c
+  answers c d = d .promise .number ∙ rw (lent-length c d Red, lent-length c d Green, lent-length c d Blue)
+
+  -- what an accepted call of this frame is known to fit
+  fits-frame : (c : StripCall) → Accepted c → OfFrame f readings c → Fits f (c .first) (c .count) (c .piece) (c .size Red) (c .size Green) (c .size Blue)
+  fits-frame c e o = subst (λ g. Fits g (c .first) (c .count) (c .piece) (c .size Red) (c .size Green) (c .size Blue)) (o .frame) (fits (c .frame) (c .first) (c .count) (c .piece) _ _ _ e)
+
+  -- an accepted call delivers the rule's rows
+  delivered : (c : StripCall) {p q : Planes} (d : Called f readings c p q) → Accepted c → (o : OfFrame f readings c) → (k : Colour) → d .after k ≡ stripPlane f (c .first) (c .count) (pieceOf (f .width) (f .height) (c .first) (c .count) readings) k
+  unfolding left
+  delivered c {p} d e o k =
+      promised (d .promise) k ∙ ap (λ n. left n (stripPlane (c .frame) (c .first) (c .count) (c .piece) k) (lent c p k)) (answers c d ∙ e)
+      ∙ ap₂ (λ g x. stripPlane g (c .first) (c .count) x k) (o .frame) (o .piece)
+
+  rows-of : (c : StripCall) → (w : Fits f (c .first) (c .count) (c .piece) (c .size Red) (c .size Green) (c .size Blue)) → (k : Colour) → Rows (f .width) rule k (c .first) (c .count) (stripPlane f (c .first) (c .count) (pieceOf (f .width) (f .height) (c .first) (c .count) readings) k)
+  rows-of c w k = record {
+    size = plane-length f (c .first) (c .count) _ k;
+    each = λ i j h g. plane-at f (c .first) (c .count) _ k i j h g ∙ piece-sample f (c .first) (c .count) (c .first + i) (w .high) (w .rows) (omega arith) (omega arith) scale evenWeights readings k j;
+  }
+
+  step : (c : StripCall) (p q : Planes) → Called f readings c p q → Step (f .width) (f .height) rule (callOf c) p q
+  unfolding left
+  step c p q d = go (numberOf c) refl
+    where
+      go : (n : ℕ) → numberOf c ≡ n → Step (f .width) (f .height) rule (callBy n c) p q
+      go zero e =
+          let o = d .premise e in
+          let w = fits-frame c e o in
+          (w .rows, λ k. (stripPlane f (c .first) (c .count) (pieceOf (f .width) (f .height) (c .first) (c .count) readings) k, rows-of c w k, d .rest k ∙ ap₂ (λ s x. put s x (p k)) (o .rows k) (delivered c d e o k)))
+      go (suc n) e = λ k. (d .inside k, d .rest k ∙ ap (λ x. put (c .from k) x (p k)) (promised (d .promise) k ∙ ap (λ n. left n (stripPlane (c .frame) (c .first) (c .count) (c .piece) k) (lent c p k)) (answers c d ∙ e)))
+
+  runs : (l : List StripCall) (p q : Planes) → CalledAll f readings l p q → Runs (f .width) (f .height) rule (map callOf l) p q
+  runs [] p q h = h
+  runs (c ∷ l) p q h = (h .0, step c p (h .0) (h .1), runs l (h .0) q (h .2))
+
+  -- covered, in either sense
+  to : (l : List StripCall) (i : ℕ) → CoveredBy l i → Covered (map callOf l) i
+  to (c ∷ l) i (inl v) = inl (go (numberOf c) (v .0))
+    where
+      go : (n : ℕ) → n ≡ 0 → Covers (callBy n c) i
+      go zero e = (v .1, v .2)
+      go (suc n) e = absurd (let z : ⊥ = omega arith in z)
+  to (c ∷ l) i (inr v) = inr (to l i v)
+
+  from : (l : List StripCall) (i : ℕ) → Covered (map callOf l) i → CoveredBy l i
+  from (c ∷ l) i (inl v) = inl (go (numberOf c) refl v)
+    where
+      go : (n : ℕ) → numberOf c ≡ n → Covers (callBy n c) i → Accepted c × (c .first ≤ i) × (i < c .first + c .count)
+      go zero e v = (e, v .0, v .1)
+      go (suc n) e v = absurd v
+  from (c ∷ l) i (inr v) = inr (from l i v)
+
+  -- the readings that a covering call read are in range, and the rule and the exact form of its rows depend on no others
+  near-exact : (l : List StripCall) (p q : Planes) → CalledAll f readings l p q → (k : Colour) (i j : ℕ) → CoveredBy l i → Within (natural (rule k i j)) (exactSample evenWeights (lit≤ tt) f 0 readings k i j) (printed k) 100
+  near-exact (c ∷ l) p q h k i j (inr v) = near-exact l (h .0) q (h .2) k i j v
+  near-exact (c ∷ l) p q h k i j (inl v) =
+      let o = h .1 .premise (v .0) in
+      let w = fits-frame c (v .0) o in
+      rw (piece-sample f (c .first) (c .count) i (w .high) (w .rows) (v .1) (v .2) scale evenWeights readings k j, piece-exactSample f (c .first) (c .count) i (w .high) (w .rows) (v .1) (v .2) evenWeights (lit≤ tt) readings k j)
+      at (printed-error f (pieceStart (c .first)) (pieceOf (f .width) (f .height) (c .first) (c .count) readings) (λ n. subst (λ x. getD x n 0 ≤ 4095) (o .piece) (w .range n)) k i j)
+
+  covered-in : (l : List StripCall) (p q : Planes) → CalledAll f readings l p q → (i : ℕ) → CoveredBy l i → i < f .height
+  covered-in (c ∷ l) p q h i (inr v) = covered-in l (h .0) q (h .2) i v
+  covered-in (c ∷ l) p q h i (inl v) = let w = fits-frame c (v .0) (h .1 .premise (v .0)) in omega (arith, w .rows, v .2)
+
+  -- the observed sample is 16 times the reading
+  observed-rule : (i j : ℕ) → i < f .height → j < f .width → rule (colourAt (f .layout) i j) i j ≡ 16 * getD readings (i * f .width + j) 0
+  unfolding sample
+  observed-rule i j hi hj = own-colour scale evenWeights f (continued f 0 readings) (colourAt (f .layout) i j) (pos i) (pos j) (ap₂ (colourAt (f .layout)) row col) ∙ ap (λ x. 16 * x) read
+    where
+      row : mirror (f .height) (pos i) ≡ i
+      row = mirror-inside (f .height) i hi
+
+      col : mirror (f .width) (pos j) ≡ j
+      col = mirror-inside (f .width) j hj
+
+      read : (continued f 0 readings) .reading (pos i) (pos j) ≡ getD readings (i * f .width + j) 0
+      read = ap₂ (λ r c. getD (rowOf (f .width) r readings) c 0) (let e : mirror (f .height) (pos i) - 0 ≡ i = omega (arith, row) in e) col ∙ row-reading (f .width) i readings j hj
+
+  pub demand-3 : (l : List StripCall) (p q : Planes) → ((k : Colour) → length (p k) ≡ f .width * f .height) → CalledAll f readings l p q → Demanded f readings l p q
+  demand-3 l p q e h = record {
+    near = λ k i j v hj. rw (a .covered k i j (to l i v) hj) (near-exact l p q h k i j v);
+    observed = λ i j v hj. a .covered (colourAt (f .layout) i j) i j (to l i v) hj ∙ observed-rule i j (covered-in l p q h i v) hj;
+    others = λ k i j v hj. a .others k i j (λ x. v (from l i x)) hj;
+    lengths = a .lengths;
+  }
+    where
+      a : After (f .width) (f .height) rule (map callOf l) p q
+      a = after-calls (f .width) (f .height) rule (map callOf l) p q e (runs l p q h)
+
+  -- NO SEAMS: two lists of calls, however they cut the frame and whatever the planes held before, leave the same samples in every row that both cover
+  pub no-seams : (l l′ : List StripCall) (p p′ q q′ : Planes) → ((k : Colour) → length (p k) ≡ f .width * f .height) → ((k : Colour) → length (p′ k) ≡ f .width * f .height)
+      → CalledAll f readings l p q → CalledAll f readings l′ p′ q′ → (k : Colour) (i j : ℕ) → CoveredBy l i → CoveredBy l′ i → j < f .width → getD (q k) (i * f .width + j) 0 ≡ getD (q′ k) (i * f .width + j) 0
+  no-seams l l′ p p′ q q′ e e′ h h′ k i j v v′ hj = covered l p q e h k i j v hj ∙ sym (covered l′ p′ q′ e′ h′ k i j v′ hj)
+    where
+      covered : (l : List StripCall) (p q : Planes) → ((k : Colour) → length (p k) ≡ f .width * f .height) → CalledAll f readings l p q → (k : Colour) (i j : ℕ) → CoveredBy l i → j < f .width → getD (q k) (i * f .width + j) 0 ≡ rule k i j
+      covered l p q e h k i j v hj = after-calls (f .width) (f .height) rule (map callOf l) p q e (runs l p q h) .covered k i j (to l i v) hj

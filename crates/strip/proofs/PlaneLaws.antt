@@ -1,0 +1,30 @@
+-- The rows that are worked out are the planes that the contract names. Assumes nothing.
+use Prim.Native.Nat.{ℕ, zero, suc, _+_}
+use mathlib.Core.Path.{_≡_, refl, ap}
+use mathlib.Core.List.{List}
+use Rattle.bayer.specs.declared.colour.Colour.the-variants.{Red, Green, Blue}
+use Rattle.bayer.specs.declared.frame.Frame.{Frame}
+use Rattle.bayer.specs.Piece.{pieceStart}
+use Rattle.demosaic.specs.Sample.{sample}
+use Rattle.green_rows.specs.Table.{joined}
+use Rattle.strip.specs.Strip.{stripPlane, left}
+use Rattle.strip.specs.Rows.{greenRow, colourRow}
+
+module _ (f : Frame) (a n : ℕ) (piece : List ℕ) (start : ℕ) (e : start ≡ pieceStart a) where
+  pub red-plane : joined (λ i. colourRow f start piece Red (a + i)) n ≡ stripPlane f a n piece Red
+  unfolding stripPlane sample
+  red-plane = ap (λ s. joined (λ i. colourRow f s piece Red (a + i)) n) e
+
+  pub green-plane : joined (λ i. greenRow f start piece (a + i)) n ≡ stripPlane f a n piece Green
+  unfolding stripPlane sample
+  green-plane = ap (λ s. joined (λ i. greenRow f s piece (a + i)) n) e
+
+  pub blue-plane : joined (λ i. colourRow f start piece Blue (a + i)) n ≡ stripPlane f a n piece Blue
+  unfolding stripPlane sample
+  blue-plane = ap (λ s. joined (λ i. colourRow f s piece Blue (a + i)) n) e
+
+-- a refused call leaves what it was lent
+pub left-lent : (number : ℕ) (delivered lent : List ℕ) → (number ≡ 0 → ⊥) → left number delivered lent ≡ lent
+unfolding left
+left-lent zero delivered lent h = absurd (h refl)
+left-lent (suc n) delivered lent h = refl

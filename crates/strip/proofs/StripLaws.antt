@@ -1,0 +1,110 @@
+-- What an accepted strip call is, and what it delivers: the rows of the whole frame. Assumes nothing.
+use mathlib.Core.Path.{_≡_, refl, sym, _∙_, ap, ap₂}
+use mathlib.Core.Bool.{Bool, true, false, not, _||_}
+use mathlib.Core.List.{List, [], _∷_, _++_}
+use Prim.Native.Nat.{ℕ, zero, suc, _+_, _*_, _-_, _≤_, _<_}
+use native.Mathlib.Omega.{arith}
+use borrow.Author.Tests.{ltb-false}
+use lib.Dec.{T, ltb, eqb, eqb→eq}
+use lib.ListN.{length, getD}
+use Rattle.bayer.specs.declared.colour.Colour.{Colour}
+use Rattle.bayer.specs.declared.frame.Frame.{Frame}
+use Rattle.bayer.specs.Condition.{outsideSizes}
+use Rattle.bayer.specs.Piece.{pieceStart, pieceRows, pieceOf}
+use Rattle.bayer.proofs.RefusalLaws.{off, neither}
+use Rattle.demosaic.specs.Sample.{sample, scale, evenWeights}
+use Rattle.demosaic.proofs.FrameLocal.{piece-sample}
+use Rattle.green_rows.specs.Table.{table, joined}
+use Rattle.green_rows.proofs.TableLaws.{length-table, getD-table, table-same, length-joined, getD-joined}
+use Rattle.strip.specs.Strip.{anyAbove, stripNumber, stripPlane}
+
+-- ---- tests
+
+not-false : (b : Bool) → not b ≡ false → b ≡ true
+not-false true e = refl
+not-false false e = sym e
+
+same-number : (m n : ℕ) → not (eqb m n) ≡ false → m ≡ n
+same-number m n e = eqb→eq m n (rw (not-false (eqb m n) e) tt)
+
+none-above : (m : ℕ) (l : List ℕ) → anyAbove m l ≡ false → (n : ℕ) → getD l n 0 ≤ m
+unfolding anyAbove
+none-above m [] e n = omega arith
+none-above m (x ∷ l) e zero = let p = neither (ltb m x) (anyAbove m l) e in ltb-false m x (p .0)
+none-above m (x ∷ l) e (suc n) = let p = neither (ltb m x) (anyAbove m l) e in none-above m l (p .1) n
+
+-- ---- an accepted call
+
+pub record Fits (f : Frame) (a n : ℕ) (piece : List ℕ) (red green blue : ℕ) : Type 0 where
+  pub wide : 8 ≤ f .width
+  pub narrow : f .width ≤ 4096
+  pub high : 8 ≤ f .height
+  pub low : f .height ≤ 4096
+  pub known : f .layout ≤ 3
+  pub some : 0 < n
+  pub rows : a + n ≤ f .height
+  pub long : length piece ≡ pieceRows (f .height) a n * f .width
+  pub reds : red ≡ n * f .width
+  pub greens : green ≡ n * f .width
+  pub blues : blue ≡ n * f .width
+  pub range : (i : ℕ) → getD piece i 0 ≤ 4095
+
+pub size-fits : (n : ℕ) → outsideSizes n ≡ false → (8 ≤ n) × (n ≤ 4096)
+size-fits n e = let p = neither (ltb n 8) (ltb 4096 n) e in (ltb-false n 8 (p .0), ltb-false 4096 n (p .1))
+
+positive : (n : ℕ) → eqb n 0 ≡ false → 0 < n
+positive zero e = absurd (let z : _≡_ {A = Bool} true false = e in clash z)
+  where
+    clash : true ≡ false → ⊥
+    clash z = let w : _≡_ {A = ℕ} 0 1 = cc in omega arith
+positive (suc n) e = omega arith
+
+pub fits : (f : Frame) (a n : ℕ) (piece : List ℕ) (red green blue : ℕ) → stripNumber f a n piece red green blue ≡ 0 → Fits f a n piece red green blue
+unfolding stripNumber
+fits f a n piece red green blue e =
+    let o = off _ e in
+    let sizes = neither (outsideSizes (f .width)) (outsideSizes (f .height)) (o .0) in
+    let w = size-fits (f .width) (sizes .0) in
+    let h = size-fits (f .height) (sizes .1) in
+    let r = neither (eqb n 0) (ltb (f .height) (a + n)) (o .1 .1 .0) in
+    let p = neither (not (eqb red (n * f .width))) (not (eqb green (n * f .width)) || not (eqb blue (n * f .width))) (o .1 .1 .1 .1 .0) in
+    let q = neither (not (eqb green (n * f .width))) (not (eqb blue (n * f .width))) (p .1) in
+    record {
+      wide = w .0;
+      narrow = w .1;
+      high = h .0;
+      low = h .1;
+      known = ltb-false 3 (f .layout) (o .1 .0);
+      some = positive n (r .0);
+      rows = ltb-false (f .height) (a + n) (r .1);
+      long = same-number _ _ (o .1 .1 .1 .0);
+      reds = same-number _ _ (p .0);
+      greens = same-number _ _ (q .0);
+      blues = same-number _ _ (q .1);
+      range = none-above 4095 piece (o .1 .1 .1 .1 .1 .0);
+    }
+
+-- ---- what is delivered
+
+module _ (f : Frame) (a n : ℕ) (piece : List ℕ) (k : Colour) where
+  row-length : (i : ℕ) → length (table (λ j. sample scale evenWeights f (pieceStart a) piece k (a + i) j) (f .width)) ≡ f .width
+  row-length i = length-table _ (f .width)
+
+  pub plane-length : length (stripPlane f a n piece k) ≡ n * f .width
+  unfolding stripPlane
+  plane-length = length-joined _ (f .width) row-length n
+
+  pub plane-at : (i j : ℕ) → i < n → j < f .width → getD (stripPlane f a n piece k) (i * f .width + j) 0 ≡ sample scale evenWeights f (pieceStart a) piece k (a + i) j
+  unfolding stripPlane
+  plane-at i j h g = getD-joined _ (f .width) row-length n i j 0 h g ∙ getD-table _ (f .width) j 0 g
+
+joined-same : (f g : ℕ → List ℕ) (n : ℕ) → ((i : ℕ) → i < n → f i ≡ g i) → joined f n ≡ joined g n
+unfolding joined
+joined-same f g zero h = refl
+joined-same f g (suc n) h = ap₂ (λ x y. x ++ y) (joined-same f g n (λ i l. h i (omega arith))) (h n (omega arith))
+
+-- DEMAND 2: for every frame whose rows the piece is, the samples delivered are those of rows a to a + n − 1 of the whole frame. Nothing is asked of its other rows
+pub demand-2 : (f : Frame) (readings : List ℕ) (a n : ℕ) → 8 ≤ f .height → a + n ≤ f .height
+    → (k : Colour) → stripPlane f a n (pieceOf (f .width) (f .height) a n readings) k ≡ joined (λ i. table (λ j. sample scale evenWeights f 0 readings k (a + i) j) (f .width)) n
+unfolding stripPlane
+demand-2 f readings a n hH hr k = joined-same _ _ n (λ i h. table-same _ _ (f .width) (λ j g. piece-sample f a n (a + i) hH hr (omega arith) (omega arith) scale evenWeights readings k j))

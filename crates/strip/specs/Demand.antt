@@ -1,0 +1,67 @@
+-- Lists of strip calls over one frame and three whole planes: what is asked of the calls, and what then holds. Assumes nothing.
+use Prim.Native.Nat.{ℕ, _+_, _*_, _≤_, _<_}
+use mathlib.Core.Path.{_≡_}
+use mathlib.Core.Logic.{_⊎_}
+use mathlib.Core.List.{List, [], _∷_}
+use lib.Dec.{lit≤}
+use lib.ListN.{length, getD}
+use Rattle.whole.specs.Fraction.{natural, Within}
+use Rattle.bayer.specs.declared.colour.Colour.{Colour}
+use Rattle.bayer.specs.declared.colour.Colour.the-variants.{Red, Green, Blue}
+use Rattle.bayer.specs.declared.frame.Frame.{Frame}
+use Rattle.bayer.specs.Colour.{colourAt}
+use Rattle.bayer.specs.Piece.{pieceOf}
+use Rattle.calls.specs.Calls.{Planes, stretch, put}
+use Rattle.demosaic.specs.Sample.{evenWeights}
+use Rattle.demosaic.specs.Exact.{exactSample, printed}
+use Rattle.strip.specs.Strip.{stripNumber, Promise}
+
+-- a call: what it names, the piece it brings, and the stretch of each plane that it is lent
+pub record StripCall : Type 0 where
+  pub frame : Frame
+  pub first : ℕ
+  pub count : ℕ
+  pub piece : List ℕ
+  pub from : Colour → ℕ
+  pub size : Colour → ℕ
+
+abbrev pub numberOf : StripCall → ℕ
+numberOf c = stripNumber (c .frame) (c .first) (c .count) (c .piece) (c .size Red) (c .size Green) (c .size Blue)
+
+abbrev pub Accepted : StripCall → Type 0
+Accepted c = numberOf c ≡ 0
+
+-- of an accepted call: it names the frame f, brings the rows of its readings, and is lent its own rows of each plane
+pub record OfFrame (f : Frame) (readings : List ℕ) (c : StripCall) : Type 0 where
+  pub frame : c .frame ≡ f
+  pub piece : c .piece ≡ pieceOf (f .width) (f .height) (c .first) (c .count) readings
+  pub rows : (k : Colour) → c .from k ≡ c .first * f .width
+
+-- a call finds the planes p and leaves q. Nothing but its contract is known of it, and the premise is asked of accepted calls only
+pub record Called (f : Frame) (readings : List ℕ) (c : StripCall) (p q : Planes) : Type 0 where
+  pub premise : Accepted c → OfFrame f readings c
+  pub inside : (k : Colour) → c .from k + c .size k ≤ length (p k)
+  pub answer : ℕ
+  pub after : Planes
+  pub promise : Promise (c .frame) (c .first) (c .count) (c .piece) (λ k. stretch (c .from k) (c .size k) (p k)) answer after
+  pub rest : (k : Colour) → q k ≡ put (c .from k) (after k) (p k)
+
+-- a list of calls, each of which finds what the one before it left
+abbrev pub CalledAll : Frame → (readings : List ℕ) → List StripCall → (p q : Planes) → Type 0
+CalledAll f readings [] p q = (k : Colour) → q k ≡ p k
+CalledAll f readings (c ∷ l) p q = (m : Planes) × Called f readings c p m × CalledAll f readings l m q
+
+-- an accepted call of the list covers row i
+abbrev pub CoveredBy : List StripCall → (i : ℕ) → Type 0
+CoveredBy [] i = ⊥
+CoveredBy (c ∷ l) i = (Accepted c × (c .first ≤ i) × (i < c .first + c .count)) ⊎ CoveredBy l i
+
+-- DEMAND 3, of the planes p before the list and q after it
+pub record Demanded (f : Frame) (readings : List ℕ) (l : List StripCall) (p q : Planes) : Type 0 where
+  -- in a covered row every sample is within the printed hundredths of the exact reconstruction of the frame
+  pub near : (k : Colour) (i j : ℕ) → CoveredBy l i → j < f .width → Within (natural (getD (q k) (i * f .width + j) 0)) (exactSample evenWeights (lit≤ tt) f 0 readings k i j) (printed k) 100
+  -- and the observed one is 16 times the reading
+  pub observed : (i j : ℕ) → CoveredBy l i → j < f .width → getD (q (colourAt (f .layout) i j)) (i * f .width + j) 0 ≡ 16 * getD readings (i * f .width + j) 0
+  -- every other row is as before
+  pub others : (k : Colour) (i j : ℕ) → ¬ CoveredBy l i → j < f .width → getD (q k) (i * f .width + j) 0 ≡ getD (p k) (i * f .width + j) 0
+  pub lengths : (k : Colour) → length (q k) ≡ f .width * f .height

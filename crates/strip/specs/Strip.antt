@@ -1,0 +1,53 @@
+-- A strip call: the number it answers, and what it leaves in the three planes it was lent. Assumes nothing.
+use Prim.Native.Nat.{ℕ, zero, suc, _+_, _*_}
+use mathlib.Core.Path.{_≡_}
+use mathlib.Core.Bool.{Bool, false, not, _||_}
+use mathlib.Core.List.{List, [], _∷_}
+use lib.Dec.{ltb, eqb}
+use lib.ListN.{length}
+use Rattle.bayer.specs.declared.colour.Colour.{Colour}
+use Rattle.bayer.specs.declared.colour.Colour.the-variants.{Red, Green, Blue}
+use Rattle.bayer.specs.declared.frame.Frame.{Frame}
+use Rattle.bayer.specs.Condition.{outsideSizes, unknown}
+use Rattle.bayer.specs.Piece.{pieceStart, pieceRows}
+use Rattle.bayer.specs.Refusal.{_when_, sizeOutOfRange, unknownLayout, rowsOutsideFrame, wrongPieceLength, wrongPlaneLength, readingOutOfRange, firstOf}
+use Rattle.demosaic.specs.Sample.{sample, scale, evenWeights}
+use Rattle.green_rows.specs.Table.{table, joined}
+
+-- some reading is above m
+unfoldable pub anyAbove : (m : ℕ) → List ℕ → Bool
+anyAbove m [] = false
+anyAbove m (x ∷ l) = ltb m x || anyAbove m l
+
+-- the number of the refusal, the lowest that holds; 0: accepted. The call names f, a and n, and is lent a piece of the mosaic and planes of these lengths
+unfoldable pub stripNumber : Frame → (a n : ℕ) (piece : List ℕ) (red green blue : ℕ) → ℕ
+stripNumber f a n piece red green blue =
+    firstOf
+    ((sizeOutOfRange when (outsideSizes (f .width) || outsideSizes (f .height)))
+    ∷ (unknownLayout when unknown (f .layout))
+    ∷ (rowsOutsideFrame when (eqb n 0 || ltb (f .height) (a + n)))
+    ∷ (wrongPieceLength when not (eqb (length piece) (pieceRows (f .height) a n * f .width)))
+    ∷ (wrongPlaneLength when (not (eqb red (n * f .width)) || (not (eqb green (n * f .width)) || not (eqb blue (n * f .width)))))
+    ∷ (readingOutOfRange when anyAbove 4095 piece)
+    ∷ [])
+
+-- the samples of plane k, rows a to a + n − 1, that the rules give from the piece
+unfoldable pub stripPlane : Frame → (a n : ℕ) (piece : List ℕ) (k : Colour) → List ℕ
+stripPlane f a n piece k = joined (λ i. table (λ j. sample scale evenWeights f (pieceStart a) piece k (a + i) j) (f .width)) n
+
+-- what a lent plane holds after a call of this number: accepted, the samples delivered; refused, what it held
+unfoldable pub left : (number : ℕ) (delivered lent : List ℕ) → List ℕ
+left zero delivered lent = delivered
+left (suc n) delivered lent = lent
+
+abbrev pub three : (red green blue : List ℕ) → Colour → List ℕ
+three red green blue Red = red
+three red green blue Green = green
+three red green blue Blue = blue
+
+-- THE CONTRACT of a strip call, which its code is proved to keep: its answer, and the planes lent to it as they are afterwards
+pub record Promise (f : Frame) (a n : ℕ) (piece : List ℕ) (lent : Colour → List ℕ) (answer : ℕ) (after : Colour → List ℕ) : Type 0 where
+  pub number : answer ≡ stripNumber f a n piece (length (lent Red)) (length (lent Green)) (length (lent Blue))
+  pub red : after Red ≡ left answer (stripPlane f a n piece Red) (lent Red)
+  pub green : after Green ≡ left answer (stripPlane f a n piece Green) (lent Green)
+  pub blue : after Blue ≡ left answer (stripPlane f a n piece Blue) (lent Blue)

@@ -1,0 +1,111 @@
+ghost use mathlib.Core.Path.{_≡_};
+ghost use mathlib.Core.Bool.{not, _||_};
+ghost use mathlib.Core.List.{_∷_, []};
+ghost use Prim.Native.Nat.{_+_};
+ghost use lib.Dec.{ltb, eqb};
+ghost use Rattle.bayer.specs.Condition.{outsideSizes, unknown};
+ghost use Rattle.bayer.specs.Refusal.{firstOf, _when_, sizeOutOfRange, unknownLayout};
+ghost use Rattle.strip.specs.Strip.{anyAbove, stripNumber};
+use bayer::frame::Frame;
+use bayer::piece::piece_rows;
+use bayer::refusal::READING_OUT_OF_RANGE;
+use bayer::refusal::ROWS_OUTSIDE_FRAME;
+use bayer::refusal::SIZE_OUT_OF_RANGE;
+use bayer::refusal::UNKNOWN_LAYOUT;
+use bayer::refusal::WRONG_PIECE_LENGTH;
+use bayer::refusal::WRONG_PLANE_LENGTH;
+use bayer::view::outside_sizes;
+
+// Refusals 1 and 2.
+fn frame_check(frame: Frame) -> u32
+    ensures { λ r. ⌜ r ≡ firstOf ((sizeOutOfRange when (outsideSizes (frame .width) || outsideSizes (frame .height))) ∷ (unknownLayout when unknown (frame .layout)) ∷ []) ⌝ }
+{
+    if outside_sizes(frame.width) {
+        return SIZE_OUT_OF_RANGE;
+    }
+    if outside_sizes(frame.height) {
+        return SIZE_OUT_OF_RANGE;
+    }
+    if 3 < frame.layout {
+        return UNKNOWN_LAYOUT;
+    }
+    0
+}
+
+// Whether a strip has no row, or runs past the frame. The sum of a and n could wrap; the difference does not.
+fn rows_outside(h: usize, a: usize, n: usize) -> bool
+    ensures { λ r. ⌜ r ≡ (eqb n 0 || ltb h (a + n)) ⌝ }
+{
+    if n == 0 {
+        return true;
+    }
+    if h < n {
+        return true;
+    }
+    if h - n < a {
+        return true;
+    }
+    false
+}
+
+// Whether one of the planes is not so long.
+fn planes_misfit(size: usize, red: usize, green: usize, blue: usize) -> bool
+    ensures { λ r. ⌜ r ≡ (not (eqb red size) || (not (eqb green size) || not (eqb blue size))) ⌝ }
+{
+    if red != size {
+        return true;
+    }
+    if green != size {
+        return true;
+    }
+    blue != size
+}
+
+// Whether some reading is above 4095.
+fn over_range(piece: &[u16]) -> bool
+    ensures { λ r. ⌜ r ≡ anyAbove 4095 (now (piece .entry)) ⌝ }
+{
+    let mut i = 0;
+    while i < piece.len() {
+        if 4095 < piece[i] {
+            return true;
+        }
+        i += 1;
+    }
+    false
+}
+
+// The number of a strip call: 0, or its refusal. It reads the whole piece and writes nothing.
+pub fn strip_check(
+    frame: Frame,
+    a: usize,
+    n: usize,
+    piece: &[u16],
+    red: usize,
+    green: usize,
+    blue: usize,
+) -> u32
+    ensures { λ r. ⌜ r ≡ stripNumber frame a n (now (piece .entry)) red green blue ⌝ }
+{
+    let number = frame_check(frame);
+    if number != 0 {
+        return number;
+    }
+    let w = frame.width;
+    let h = frame.height;
+    if rows_outside(h, a, n) {
+        return ROWS_OUTSIDE_FRAME;
+    }
+    let length = piece_rows(h, a, n) * w;
+    if piece.len() != length {
+        return WRONG_PIECE_LENGTH;
+    }
+    let size = n * w;
+    if planes_misfit(size, red, green, blue) {
+        return WRONG_PLANE_LENGTH;
+    }
+    if over_range(piece) {
+        return READING_OUT_OF_RANGE;
+    }
+    0
+}

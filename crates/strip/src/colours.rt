@@ -1,0 +1,128 @@
+ghost use mathlib.Core.Path.{_≡_};
+ghost use mathlib.Core.Bool.{false};
+ghost use Prim.Native.Nat.{ℕ, _+_, _*_, _-_, _≤_, _<_};
+ghost use lib.IntN.{pos, _+ℤ_, _-ℤ_};
+ghost use lib.ListN.{length};
+ghost use Rattle.bayer.specs.declared.colour.Colour.the-variants.{Green};
+ghost use Rattle.bayer.specs.Colour.{same};
+ghost use Rattle.bayer.specs.Mirror.{mirror};
+ghost use Rattle.green_rows.specs.Table.{joined};
+ghost use Rattle.green_rows.specs.Buffer.{AllAtMost};
+ghost use Rattle.green_rows.specs.Extended.{Lent};
+ghost use Rattle.strip.specs.Rows.{greenRow, colourRow, amongGreens};
+use bayer::colour::Colour;
+use bayer::colour::partner;
+use bayer::frame::Frame;
+use bayer::mirror::mirror;
+use fill_rows::rows::other_row;
+use fill_rows::rows::own_row;
+use green_rows::row::starts_green;
+
+// Row u of the greens above, in and below a strip of n rows.
+fn green_of<'a>(
+    green: &'a [u16],
+    above: &'a [u16],
+    below: &'a [u16],
+    w: usize,
+    n: usize,
+    u: usize,
+) -> &'a [u16]
+    requires { ⌜ (w ≤ 4096) × (n ≤ 4096) × (length (now green) ≡ n * w) × (u ≤ n + 1) ⌝ }
+    ensures { λ r. ⌜ now r ≡ amongGreens w n (now (green .entry)) (now (above .entry)) (now (below .entry)) u ⌝ }
+{
+    if u == 0 {
+        return above;
+    }
+    if u <= n {
+        let at = (u - 1) * w;
+        let end = at + w;
+        return &green[at..end];
+    }
+    below
+}
+
+// Whether two colours are the same.
+fn same_colour(a: Colour, b: Colour) -> bool
+    ensures { λ r. ⌜ r ≡ same a b ⌝ }
+{
+    match a {
+        Colour::Red => match b {
+            Colour::Red => true,
+            Colour::Green => false,
+            Colour::Blue => false,
+        },
+        Colour::Green => match b {
+            Colour::Red => false,
+            Colour::Green => true,
+            Colour::Blue => false,
+        },
+        Colour::Blue => match b {
+            Colour::Red => false,
+            Colour::Green => false,
+            Colour::Blue => true,
+        },
+    }
+}
+
+// Row v of colour k, red or blue: g is its green, ga and gb those of the rows that are read above and below it.
+fn colour_row(
+    frame: Frame,
+    start: usize,
+    piece: &[u16],
+    v: usize,
+    k: Colour,
+    ga: &[u16],
+    g: &[u16],
+    gb: &[u16],
+    out: &mut [u16],
+)
+    requires { ⌜ (Lent frame start (length (now piece)) v) × (frame .layout ≤ 3) × (AllAtMost 4095 (now piece)) × (same k Green ≡ false) ⌝ }
+    requires { ⌜ (now g ≡ greenRow frame start (now piece) v) × (now ga ≡ greenRow frame start (now piece) (mirror (frame .height) (pos v -ℤ pos 1))) × (now gb ≡ greenRow frame start (now piece) (mirror (frame .height) (pos v +ℤ pos 1))) × (length (now out) ≡ frame .width) ⌝ }
+    ensures { λ _. ⌜ now (out .exit) ≡ colourRow frame start (now (piece .entry)) k v ⌝ }
+{
+    let w = frame.width;
+    let h = frame.height;
+    let odd = starts_green(frame.layout, v);
+    let own = partner(frame.layout, v);
+    if same_colour(k, own) {
+        let at = (v - start) * w;
+        let end = at + w;
+        own_row(&piece[at..end], g, odd, out);
+        return;
+    }
+    let a = (mirror(h, v, 1) - start) * w;
+    let a_end = a + w;
+    let b = (mirror(h, v + 1, 0) - start) * w;
+    let b_end = b + w;
+    other_row(g, &piece[a..a_end], ga, &piece[b..b_end], gb, odd, out);
+}
+
+// Rows a to a + n - 1 of colour k, from the greens of these rows, above them and below them.
+pub fn colour_rows<'a>(
+    frame: Frame,
+    start: usize,
+    piece: &[u16],
+    a: usize,
+    n: usize,
+    k: Colour,
+    green: &'a [u16],
+    above: &'a [u16],
+    below: &'a [u16],
+    out: &mut [u16],
+)
+    requires { ⌜ ((i : ℕ) → i < n → Lent frame start (length (now piece)) (a + i)) × (frame .layout ≤ 3) × (AllAtMost 4095 (now piece)) × (same k Green ≡ false) × (frame .width ≤ 4096) × (n ≤ 4096) × (a ≤ 4096) × (0 < n) × (a + n ≤ frame .height) ⌝ }
+    requires { ⌜ (now green ≡ joined (λ i. greenRow frame start (now piece) (a + i)) n) × (now above ≡ greenRow frame start (now piece) (mirror (frame .height) (pos a -ℤ pos 1))) × (now below ≡ greenRow frame start (now piece) (mirror (frame .height) (pos (a + n)))) × (length (now out) ≡ n * frame .width) ⌝ }
+    ensures { λ _. ⌜ now (out .exit) ≡ joined (λ i. colourRow frame start (now (piece .entry)) k (a + i)) n ⌝ }
+{
+    let w = frame.width;
+    let mut i = 0;
+    while i < n {
+        let ga = green_of(green, above, below, w, n, i);
+        let g = green_of(green, above, below, w, n, i + 1);
+        let gb = green_of(green, above, below, w, n, i + 2);
+        let at = i * w;
+        let end = at + w;
+        colour_row(frame, start, piece, a + i, k, ga, g, gb, &mut out[at..end]);
+        i += 1;
+    }
+}
