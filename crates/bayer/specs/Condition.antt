@@ -1,7 +1,10 @@
 -- Conditions of refusals. Assumes nothing.
 use Prim.Native.Nat.{ℕ, _+_, _*_}
 use mathlib.Core.Bool.{Bool, _||_}
+use mathlib.Core.List.{List, [], _∷_}
 use lib.Dec.{ltb}
+use Rattle.bayer.specs.declared.frame.Frame.{Frame}
+use Rattle.bayer.specs.Refusal.{Case, _when_, sizeOutOfRange, unknownLayout}
 
 -- 1, for a width or a height: outside 8 to 4096
 abbrev pub outsideSizes : ℕ → Bool
@@ -10,6 +13,10 @@ outsideSizes n = ltb n 8 || ltb 4096 n
 -- 2: a layout above 3
 abbrev pub unknown : (layout : ℕ) → Bool
 unknown layout = ltb 3 layout
+
+-- both, of a frame description
+abbrev pub frameCases : Frame → List Case
+frameCases f = (sizeOutOfRange when (outsideSizes (f .width) || outsideSizes (f .height))) ∷ (unknownLayout when unknown (f .layout)) ∷ []
 
 -- 7: a plane of this length lacks row i
 abbrev pub lacksRow : (length w i : ℕ) → Bool

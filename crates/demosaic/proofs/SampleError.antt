@@ -21,7 +21,8 @@ use Rattle.gbtf.specs.Mosaic.{Mosaic, continued}
 use Rattle.gbtf.specs.GreenAt.{greenAt, exactGreenAt}
 use Rattle.gbtf.proofs.GreenBound.{within-cond, greenAt-sharp}
 use Rattle.demosaic.specs.Fill.{fill, sumOf}
-use Rattle.demosaic.specs.Sample.{Pixel, diagonal, inRow, inColumn, readingOf, colourDifferences, otherFrom, sampleFrom, sample, scale, evenWeights}
+use Rattle.gbtf.specs.Weights.{scale, evenWeights}
+use Rattle.demosaic.specs.Sample.{Pixel, diagonal, inRow, inColumn, readingOf, colourDifferences, otherFrom, sampleFrom, sample}
 use Rattle.demosaic.specs.Exact.{exactFill, exactDifferences, exactOtherFrom, exactFrom, exactSample, printed}
 use Rattle.demosaic.proofs.Neighbours.{neighbours-cases}
 use Rattle.demosaic.proofs.FillError.{fill-within}

@@ -61,10 +61,3 @@ module _ (f : Frame) (m : Mosaic) (G : (i j : ℤ) → ℕ) where
 -- plane k of a frame at row i and column j, with GBTF's green, from the frame's rows from row `first` on
 unfoldable pub sample : (K : ℕ) (ws : List ℕ) → Frame → (first : ℕ) (rows : List ℕ) (k : Colour) (i j : ℕ) → ℕ
 sample K ws f first rows k i j = let m = continued f first rows in sampleFrom f m (λ i j. greenAt ws m i j K) k (pos i) (pos j)
-
--- document 01's share scale and weights
-abbrev pub scale : ℕ
-scale = 134217728
-
-abbrev pub evenWeights : List ℕ
-evenWeights = 1 ∷ 1 ∷ 1 ∷ 1 ∷ 1 ∷ []

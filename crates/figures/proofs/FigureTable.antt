@@ -17,7 +17,8 @@ use Rattle.gbtf.specs.Fusion.{fusion, green}
 use Rattle.gbtf.specs.Mosaic.{Mosaic, continued}
 use Rattle.gbtf.specs.GreenAt.{DH, DV, GH, GV, greenAt}
 use Rattle.demosaic.specs.Fill.{fill}
-use Rattle.demosaic.specs.Sample.{neighbours, otherFrom, sampleFrom, sample, scale, evenWeights}
+use Rattle.gbtf.specs.Weights.{scale, evenWeights}
+use Rattle.demosaic.specs.Sample.{neighbours, otherFrom, sampleFrom, sample}
 use Rattle.demosaic.proofs.SampleInside.{sampleFrom-inside}
 use Rattle.figures.specs.Figures.{Claim, planesOf, frame8, readings8, all, plane8Is, holds, every, pixelFigures, frameFigures, figures}
 

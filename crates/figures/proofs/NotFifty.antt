@@ -9,7 +9,8 @@ use Rattle.gbtf.specs.Difference.{difference}
 use Rattle.gbtf.specs.Fusion.{fusion, green}
 use Rattle.gbtf.specs.Exact.{sumOver/t², exactGreen}
 use Rattle.gbtf.specs.GreenAt.{DH, DV, GH, GV, greenAt, exactGreenAt}
-use Rattle.demosaic.specs.Sample.{sample, scale, evenWeights}
+use Rattle.gbtf.specs.Weights.{scale, evenWeights}
+use Rattle.demosaic.specs.Sample.{sample}
 use Rattle.demosaic.specs.Exact.{exactSample}
 use Rattle.figures.specs.Figures.{frame8}
 use Rattle.figures.specs.Sharpness.{readings50}

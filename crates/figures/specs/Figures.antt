@@ -13,7 +13,8 @@ use Rattle.gbtf.specs.Difference.{difference}
 use Rattle.gbtf.specs.Direction.{direction, guarded}
 use Rattle.gbtf.specs.Fusion.{smallest, share, shares, sharedDifferences, fusion}
 use Rattle.demosaic.specs.Fill.{fill}
-use Rattle.demosaic.specs.Sample.{sample, scale, evenWeights}
+use Rattle.gbtf.specs.Weights.{scale, evenWeights}
+use Rattle.demosaic.specs.Sample.{sample}
 
 pub data Claim : Type 0 where
   -- the difference, for a centre that is green or not

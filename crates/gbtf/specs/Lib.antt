@@ -4,3 +4,4 @@ pub mod Fusion
 pub mod Exact
 pub mod Mosaic
 pub mod GreenAt
+pub mod Weights

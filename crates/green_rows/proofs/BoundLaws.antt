@@ -14,7 +14,8 @@ use Rattle.gbtf.specs.Direction.{direction, directionSum, fiveSum}
 use Rattle.gbtf.specs.Fusion.{Fitting}
 use Rattle.gbtf.proofs.PixelLaws.{difference-within, gradient-within, direction-sum-within, five-sum-within, fitting}
 use Rattle.green_rows.specs.Table.{table, joined}
-use Rattle.green_rows.specs.Buffer.{differenceIn, gradientIn, windowIn, scale, evenWeights, isOdd, AllAtMost, AllWithin}
+use Rattle.gbtf.specs.Weights.{scale, evenWeights}
+use Rattle.green_rows.specs.Buffer.{differenceIn, gradientIn, windowIn, isOdd, AllAtMost, AllWithin}
 use Rattle.green_rows.specs.Extended.{extendedRow}
 use Rattle.green_rows.proofs.TableLaws.{table-all}
 

@@ -16,7 +16,8 @@ use Rattle.bayer.proofs.MirrorLaws.{mirror-inside}
 use Rattle.gbtf.specs.Mosaic.{continued}
 use Rattle.gbtf.specs.GreenAt.{greenAt}
 use Rattle.green_rows.specs.Table.{table, joined}
-use Rattle.green_rows.specs.Buffer.{startsGreen, differenceIn, gradientIn, greenIn, scale, evenWeights, AllAtMost, AllWithin}
+use Rattle.gbtf.specs.Weights.{scale, evenWeights}
+use Rattle.green_rows.specs.Buffer.{startsGreen, differenceIn, gradientIn, greenIn, AllAtMost, AllWithin}
 use Rattle.green_rows.specs.Extended.{extendedRow, Lent}
 use Rattle.green_rows.proofs.TableLaws.{length-table, table-same}
 use Rattle.green_rows.proofs.PartLaws.{part-length, first-part, other-part, row-is}

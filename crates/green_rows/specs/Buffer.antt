@@ -65,13 +65,6 @@ module _ (K : ℕ) (ws : List ℕ) (s : ℕ) (dh dv : List ℤ) (gh gv : List �
 unfoldable pub greenIn : (K : ℕ) (ws : List ℕ) (s odd : ℕ) (x : List ℕ) (dh dv : List ℤ) (gh gv : List ℕ) (j : ℕ) → ℕ
 greenIn K ws s odd x dh dv gh gv j = cond (isOdd (j + odd)) (16 * getD x j 0) (fusedIn K ws s dh dv gh gv j (getD x j 0))
 
--- the share scale and the weights of document 01
-abbrev pub scale : ℕ
-scale = 134217728
-
-abbrev pub evenWeights : List ℕ
-evenWeights = 1 ∷ 1 ∷ 1 ∷ 1 ∷ 1 ∷ []
-
 -- every one is at most m, also in magnitude
 abbrev pub AllAtMost : (m : ℕ) → List ℕ → Type 0
 AllAtMost m l = (k : ℕ) → getD l k 0 ≤ m

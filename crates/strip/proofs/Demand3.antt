@@ -22,19 +22,14 @@ use Rattle.calls.specs.Calls.{Planes, stretch, put, Call, accepted, refused, Ro
 use Rattle.calls.proofs.CallList.{after-calls}
 use Rattle.gbtf.specs.Mosaic.{Mosaic, continued}
 use Rattle.gbtf.specs.GreenAt.{greenAt}
-use Rattle.demosaic.specs.Sample.{otherFrom, sampleFrom, sample, scale, evenWeights}
+use Rattle.gbtf.specs.Weights.{scale, evenWeights}
+use Rattle.demosaic.specs.Sample.{otherFrom, sampleFrom, sample}
 use Rattle.demosaic.specs.Exact.{exactSample, printed}
 use Rattle.demosaic.proofs.SampleError.{printed-error}
 use Rattle.demosaic.proofs.FrameLocal.{piece-sample, piece-exactSample}
-use Rattle.strip.specs.Strip.{stripPlane, left, Promise}
+use Rattle.strip.specs.Strip.{stripPlane, left, Promise, three}
 use Rattle.strip.specs.Demand.{StripCall, numberOf, Accepted, OfFrame, Called, CalledAll, CoveredBy, Demanded}
-use Rattle.strip.proofs.StripLaws.{Fits, fits, plane-length, plane-at}
-
--- plane k of what a call leaves
-promised : {f : Frame} {a n : ℕ} {piece : List ℕ} {lent after : Colour → List ℕ} {answer : ℕ} → Promise f a n piece lent answer after → (k : Colour) → after k ≡ left answer (stripPlane f a n piece k) (lent k)
-promised p Red = p .red
-promised p Green = p .green
-promised p Blue = p .blue
+use Rattle.strip.proofs.StripLaws.{Fits, fits, plane-length, plane-at, promised}
 
 abbrev lent : StripCall → Planes → Colour → List ℕ
 lent c p k = stretch (c .from k) (c .size k) (p k)
@@ -61,6 +56,18 @@ row-reading w r l c h = getD-take w (drop (r * w) l) c 0 h ∙ getD-drop (r * w)
 module _ (f : Frame) (readings : List ℕ) where
   abbrev rule : Colour → ℕ → ℕ → ℕ
   rule k i j = sample scale evenWeights f 0 readings k i j
+
+  -- the code's contract is all that a call of a list needs
+  pub called : (c : StripCall) (p : Planes) {answer : ℕ} {red green blue : List ℕ} → (Accepted c → OfFrame f readings c) → ((k : Colour) → c .from k + c .size k ≤ length (p k))
+      → Promise (c .frame) (c .first) (c .count) (c .piece) (three (lent c p Red) (lent c p Green) (lent c p Blue)) answer (three red green blue) → Called f readings c p (λ k. put (c .from k) (three red green blue k) (p k))
+  called c p {answer} {red} {green} {blue} premise inside promise = record {
+    premise = premise;
+    inside = inside;
+    answer = answer;
+    after = three red green blue;
+    promise = record { number = promise .number; red = promise .red; green = promise .green; blue = promise .blue };
+    rest = λ k. refl;
+  }
 
   lent-length : (c : StripCall) {p q : Planes} → Called f readings c p q → (k : Colour) → length (lent c p k) ≡ c .size k
   lent-length c {p} d k = length-take-le (c .size k) (drop (c .from k) (p k)) (simp length-drop (omega (arith, d .inside k)))

@@ -3,20 +3,19 @@ use Prim.Native.Nat.{ℕ, zero, suc, _+_, _-_, _*_, _≤_, _<_}
 use mathlib.Core.Path.{_≡_, refl, sym, ap, _∙_}
 use mathlib.Core.List.{List}
 use native.Mathlib.Decide.{decLe}
-use native.Mathlib.Nat.{add-zero}
 use native.Mathlib.Omega.{arith}
-use borrow.Author.Tests.{eq-eqb, ne-eqb, le-leb, lt-leb}
+use borrow.Author.Tests.{lt-ltb, le-ltb}
 use lib.IntN.{pos, subℕ, _+ℤ_, _-ℤ_}
 use lib.ListN.{length, take, drop, length-drop}
 use lib.Seq.{length-take-le, getD-take, getD-drop, ext-getD}
-use Rattle.whole.proofs.Pairs.{sub-pos}
+use Rattle.whole.proofs.Pairs.{subₚ, natₚ, _-ₚ_, eq-by}
 use Rattle.bayer.specs.declared.frame.Frame.{Frame}
 use Rattle.bayer.specs.Mirror.{mirror}
 use Rattle.bayer.specs.View.{rowOf}
-use Rattle.bayer.proofs.MirrorLaws.{mirror-inside}
+use Rattle.bayer.proofs.MirrorLaws.{mirror-inside, mirror-above, mirror-below, mirror-from}
 use Rattle.green_rows.specs.Table.{joined}
 use Rattle.green_rows.proofs.TableLaws.{length-table, part-within, length-joined, getD-joined}
-use Rattle.strip.specs.Rows.{greenRow, amongGreens}
+use Rattle.strip.specs.Rows.{greenRow, GreensOf, amongGreens}
 
 -- part i of parts of one length is its row i
 module _ (f : ℕ → List ℕ) (w : ℕ) (rows : (j : ℕ) → length (f j) ≡ w) (n i : ℕ) (h : i < n) where
@@ -30,51 +29,66 @@ module _ (f : ℕ → List ℕ) (w : ℕ) (rows : (j : ℕ) → length (f j) ≡
       (λ k l. let m : k < w = omega (arith, long) in
       getD-take w (drop (i * w) (joined f n)) k 0 m ∙ getD-drop (i * w) (joined f n) k 0 ∙ getD-joined f w rows n i k 0 h m)
 
--- row u of the greens, by its place
-module _ (w n : ℕ) (green above below : List ℕ) (u : ℕ) where
-  pub among-first : u ≡ 0 → amongGreens w n green above below u ≡ above
-  among-first e = rw (eq-eqb u 0 e)
+-- row v of the greens, by its place
+module _ (w a n : ℕ) (green above below : List ℕ) (v : ℕ) where
+  pub among-first : v < a → amongGreens w a n green above below v ≡ above
+  among-first h = rw (lt-ltb v a h)
 
-  pub among-inner : 0 < u → u ≤ n → amongGreens w n green above below u ≡ rowOf w (u - 1) green
-  among-inner h k = rw (ne-eqb u 0 (λ e. omega arith), le-leb u n k)
+  pub among-inner : a ≤ v → v < a + n → amongGreens w a n green above below v ≡ rowOf w (v - a) green
+  among-inner h k = rw (le-ltb v a h, lt-ltb v (a + n) k)
 
-  pub among-last : n < u → amongGreens w n green above below u ≡ below
-  among-last h = rw (ne-eqb u 0 (λ e. omega arith), lt-leb u n h)
+  pub among-last : a ≤ v → a + n ≤ v → amongGreens w a n green above below v ≡ below
+  among-last h k = rw (le-ltb v a h, le-ltb v (a + n) k)
 
--- a strip of rows a to a + n − 1: its greens, and those read above and below it
-module _ (f : Frame) (first : ℕ) (rows : List ℕ) (a n : ℕ) (inside : a + n ≤ f .height) {green above below : List ℕ}
-    (hg : green ≡ joined (λ i. greenRow f first rows (a + i)) n)
-    (ha : above ≡ greenRow f first rows (mirror (f .height) (pos a -ℤ pos 1)))
-    (hb : below ≡ greenRow f first rows (mirror (f .height) (pos (a + n)))) where
+module _ (f : Frame) (first : ℕ) (rows : List ℕ) (a n : ℕ) (inside : a + n ≤ f .height) (some : 0 < n) (high : 8 ≤ f .height) {green above below : List ℕ} (greens : GreensOf f first rows a n green above below) where
   pub green-length : length green ≡ n * f .width
-  green-length = ap length hg ∙ length-joined _ (f .width) (λ i. length-table _ (f .width)) n
+  green-length = ap length (greens .0) ∙ length-joined _ (f .width) (λ i. length-table _ (f .width)) n
 
-  -- row a + j is read for itself
-  itself : (j u : ℕ) → j < n → u ≡ a + j + 1 → mirror (f .height) (subℕ u 1) ≡ a + j
-  itself j u h e = ap (mirror (f .height)) (sub-pos u 1 (a + j) (omega arith)) ∙ mirror-inside (f .height) (a + j) (omega arith)
-
-  -- row u of them is read for row a + u − 1
-  among : (u : ℕ) → u ≤ n + 1 → amongGreens (f .width) n green above below u ≡ greenRow f first rows (mirror (f .height) (subℕ (a + u) 1))
-  among zero h = among-first (f .width) n green above below 0 refl ∙ ha ∙ rw add-zero
-  among (suc u) h =
-      elim (decLe (suc u) n) [
+  -- row v of them is row v of green
+  among : (v : ℕ) → v < f .height → a ≤ v + 1 → v ≤ a + n → amongGreens (f .width) a n green above below v ≡ greenRow f first rows v
+  among v hv low up =
+      elim (decLe a v) [
         | yes l ↦
-            let e : suc u - 1 ≡ u = omega arith in
-            among-inner (f .width) n green above below (suc u) (omega arith) l
-            ∙ rw (e, hg) (row-joined (λ i. greenRow f first rows (a + i)) (f .width) (λ i. length-table _ (f .width)) n u l)
-            ∙ ap (greenRow f first rows) (sym (itself u (a + suc u) l (omega arith)))
-        | no l ↦
-            among-last (f .width) n green above below (suc u) (omega arith)
-            ∙ hb ∙ ap (λ z. greenRow f first rows (mirror (f .height) z)) (sym (sub-pos (a + suc u) 1 (a + n) (omega arith)))
+            elim (decLe (a + n) v) [
+              | yes m ↦ among-last (f .width) a n green above below v l m ∙ greens .2 v (omega arith) hv
+              | no m ↦
+                  let e : a + (v - a) ≡ v = omega arith in
+                  among-inner (f .width) a n green above below v l (omega arith)
+                  ∙ rw (greens .0) (row-joined (λ i. greenRow f first rows (a + i)) (f .width) (λ i. length-table _ (f .width)) n (v - a) (omega arith))
+                  ∙ ap (greenRow f first rows) e
+            ]
+        | no l ↦ among-first (f .width) a n green above below v (omega arith) ∙ greens .1 v (omega arith) hv
       ]
 
-  -- the ones that `green_of` gives for row a + i: of the row above it, of itself and of the row below it
+  -- those that `green_of` gives for row a + i: of itself, of the row above it and of the row below it
   module _ (i : ℕ) (h : i < n) {l : List ℕ} where
-    pub among-above : l ≡ amongGreens (f .width) n green above below i → l ≡ greenRow f first rows (mirror (f .height) (pos (a + i) -ℤ pos 1))
-    among-above e = e ∙ among i (omega arith)
+    pub among-here : l ≡ amongGreens (f .width) a n green above below (a + i) → l ≡ greenRow f first rows (a + i)
+    among-here e = e ∙ among (a + i) (omega arith) (omega arith) (omega arith)
 
-    pub among-here : l ≡ amongGreens (f .width) n green above below (i + 1) → l ≡ greenRow f first rows (a + i)
-    among-here e = e ∙ among (i + 1) (omega arith) ∙ ap (greenRow f first rows) (itself i (a + (i + 1)) h (omega arith))
+    pub among-above : (v : ℕ) → v ≡ mirror (f .height) (subℕ (a + i) 1) → l ≡ amongGreens (f .width) a n green above below v → l ≡ greenRow f first rows (mirror (f .height) (pos (a + i) -ℤ pos 1))
+    among-above v r e = e ∙ among v (near .0) (near .1) (near .2) ∙ ap (greenRow f first rows) (r ∙ ap (mirror (f .height)) (eq-by (subₚ (a + i) 1) (natₚ (a + i) -ₚ natₚ 1) (omega arith)))
+      where
+        near : (v < f .height) × (a ≤ v + 1) × (v ≤ a + n)
+        near =
+            elim (decLe 1 (a + i)) [
+              | yes m ↦
+                  let q : v ≡ a + i - 1 = r ∙ mirror-from (f .height) (a + i) 1 m ∙ mirror-inside (f .height) (a + i - 1) (omega arith) in
+                  (omega arith, omega arith, omega arith)
+              | no m ↦
+                  let q : v ≡ 1 - (a + i) = r ∙ mirror-below (f .height) (a + i) 1 (omega arith) in
+                  (omega arith, omega arith, omega arith)
+            ]
 
-    pub among-below : l ≡ amongGreens (f .width) n green above below (i + 2) → l ≡ greenRow f first rows (mirror (f .height) (pos (a + i) +ℤ pos 1))
-    among-below e = e ∙ among (i + 2) (omega arith) ∙ ap (λ z. greenRow f first rows (mirror (f .height) z)) (sub-pos (a + (i + 2)) 1 (a + i + 1) (omega arith))
+    pub among-below : (v : ℕ) → v ≡ mirror (f .height) (subℕ (a + i + 1) 0) → l ≡ amongGreens (f .width) a n green above below v → l ≡ greenRow f first rows (mirror (f .height) (pos (a + i) +ℤ pos 1))
+    among-below v r e = e ∙ among v (near .0) (near .1) (near .2) ∙ ap (greenRow f first rows) (r ∙ ap (mirror (f .height)) (eq-by (subₚ (a + i + 1) 0) (natₚ (a + i + 1)) (omega arith)))
+      where
+        near : (v < f .height) × (a ≤ v + 1) × (v ≤ a + n)
+        near =
+            elim (decLe (f .height) (a + i + 1)) [
+              | yes m ↦
+                  let q : v ≡ f .height - 1 - (a + i + 1 - 0 - (f .height - 1)) = r ∙ mirror-from (f .height) (a + i + 1) 0 (omega arith) ∙ mirror-above (f .height) (a + i + 1 - 0) (omega arith) in
+                  (omega arith, omega arith, omega arith)
+              | no m ↦
+                  let q : v ≡ a + i + 1 - 0 = r ∙ mirror-from (f .height) (a + i + 1) 0 (omega arith) ∙ mirror-inside (f .height) (a + i + 1 - 0) (omega arith) in
+                  (omega arith, omega arith, omega arith)
+            ]

@@ -16,6 +16,7 @@ use Rattle.bayer.proofs.MirrorLaws.{mirror-is, mirror-inside}
 use Rattle.demosaic.proofs.FrameLocal.{in-piece}
 use Rattle.green_rows.specs.Buffer.{AllAtMost}
 use Rattle.green_rows.specs.Extended.{Lent}
+use Rattle.strip.specs.Rows.{Readable}
 use Rattle.strip.proofs.StripLaws.{Fits}
 
 module _ (f : Frame) (a n : ℕ) (piece : List ℕ) {red green blue : ℕ} (w : Fits f a n piece red green blue) where
@@ -52,23 +53,13 @@ module _ (f : Frame) (a n : ℕ) (piece : List ℕ) {red green blue : ℕ} (w : 
   pub lent-rows : (i : ℕ) → i < n → Lent f (pieceStart a) (length piece) (a + i)
   lent-rows i h = lent-at (a + i) (omega (arith, w .rows)) (omega arith) (omega arith)
 
-  pub lent-above : Lent f (pieceStart a) (length piece) (mirror (f .height) (pos a -ℤ pos 1))
-  lent-above = by-row a refl
-    where
-      by-row : (k : ℕ) → k ≡ a → Lent f (pieceStart a) (length piece) (mirror (f .height) (pos k -ℤ pos 1))
-      by-row zero e = rw (mirror-is (f .height) (negsuc 0) (omega (arith, w .high))) (lent-at (min 1 (2 * (f .height - 1) - 1)) (omega (arith, w .high)) (omega arith) (omega (arith, w .some)))
-      by-row (suc k) e = rw (sub-pos (suc k) 1 k (omega arith), mirror-inside (f .height) k (omega (arith, w .rows))) (lent-at k (omega (arith, w .rows)) (omega arith) (omega arith))
-
-  pub lent-below : Lent f (pieceStart a) (length piece) (mirror (f .height) (pos (a + n)))
-  lent-below = rw (mirror-is (f .height) (pos (a + n)) (omega (arith, w .rows, w .high))) (lent-at (min (a + n) (2 * (f .height - 1) - (a + n))) (omega (arith, w .rows, w .high)) (omega (arith, w .rows, w .high, w .some)) (omega arith))
-
   -- what working out its rows requires, where `start` is the first row of its piece
   module _ (start : ℕ) (e : start ≡ pieceStart a) where
     rows-lent : (i : ℕ) → i < n → Lent f start (length piece) (a + i)
     rows-lent i h = subst (λ s. Lent f s (length piece) (a + i)) (sym e) (lent-rows i h)
 
-    pub greens-ready : ((i : ℕ) → i < n → Lent f start (length piece) (a + i)) × (Lent f start (length piece) (mirror (f .height) (pos a -ℤ pos 1))) × (Lent f start (length piece) (mirror (f .height) (pos (a + n)))) × (f .layout ≤ 3) × AllAtMost 4095 piece
-    greens-ready = (rows-lent, subst (λ s. Lent f s (length piece) (mirror (f .height) (pos a -ℤ pos 1))) (sym e) lent-above, subst (λ s. Lent f s (length piece) (mirror (f .height) (pos (a + n)))) (sym e) lent-below, w .known, w .range)
+    pub greens-ready : Readable f start piece a n
+    greens-ready = (λ v h l m. subst (λ s. Lent f s (length piece) v) (sym e) (lent-at v h l m), w .known, w .range, w .rows, w .wide)
 
     pub sizes-ready : (n ≤ 4096) × (a ≤ 4096) × (f .width ≤ 4096)
     sizes-ready = (omega (arith, w .rows, w .low), omega (arith, w .rows, w .low), w .narrow)

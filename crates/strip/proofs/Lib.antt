@@ -1,5 +1,4 @@
 pub mod AboveLaws
-pub mod NumberLaws
 pub mod GreenAmong
 pub mod ColourRow
 pub mod StripLaws

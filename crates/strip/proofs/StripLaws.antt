@@ -8,15 +8,17 @@ use borrow.Author.Tests.{ltb-false}
 use lib.Dec.{T, ltb, eqb, eqb→eq}
 use lib.ListN.{length, getD}
 use Rattle.bayer.specs.declared.colour.Colour.{Colour}
+use Rattle.bayer.specs.declared.colour.Colour.the-variants.{Red, Green, Blue}
 use Rattle.bayer.specs.declared.frame.Frame.{Frame}
 use Rattle.bayer.specs.Condition.{outsideSizes}
 use Rattle.bayer.specs.Piece.{pieceStart, pieceRows, pieceOf}
 use Rattle.bayer.proofs.RefusalLaws.{off, neither}
-use Rattle.demosaic.specs.Sample.{sample, scale, evenWeights}
+use Rattle.gbtf.specs.Weights.{scale, evenWeights}
+use Rattle.demosaic.specs.Sample.{sample}
 use Rattle.demosaic.proofs.FrameLocal.{piece-sample}
 use Rattle.green_rows.specs.Table.{table, joined}
 use Rattle.green_rows.proofs.TableLaws.{length-table, getD-table, table-same, length-joined, getD-joined}
-use Rattle.strip.specs.Strip.{anyAbove, stripNumber, stripPlane}
+use Rattle.strip.specs.Strip.{anyAbove, stripNumber, stripPlane, frameRows, left, Promise}
 
 -- ---- tests
 
@@ -103,8 +105,21 @@ unfolding joined
 joined-same f g zero h = refl
 joined-same f g (suc n) h = ap₂ (λ x y. x ++ y) (joined-same f g n (λ i l. h i (omega arith))) (h n (omega arith))
 
--- DEMAND 2: for every frame whose rows the piece is, the samples delivered are those of rows a to a + n − 1 of the whole frame. Nothing is asked of its other rows
-pub demand-2 : (f : Frame) (readings : List ℕ) (a n : ℕ) → 8 ≤ f .height → a + n ≤ f .height
-    → (k : Colour) → stripPlane f a n (pieceOf (f .width) (f .height) a n readings) k ≡ joined (λ i. table (λ j. sample scale evenWeights f 0 readings k (a + i) j) (f .width)) n
+-- a piece of the frame gives its rows
+pub strip-of-frame : (f : Frame) (readings : List ℕ) (a n : ℕ) → 8 ≤ f .height → a + n ≤ f .height → (k : Colour) → stripPlane f a n (pieceOf (f .width) (f .height) a n readings) k ≡ frameRows f readings a n k
 unfolding stripPlane
-demand-2 f readings a n hH hr k = joined-same _ _ n (λ i h. table-same _ _ (f .width) (λ j g. piece-sample f a n (a + i) hH hr (omega arith) (omega arith) scale evenWeights readings k j))
+strip-of-frame f readings a n hH hr k = joined-same _ _ n (λ i h. table-same _ _ (f .width) (λ j g. piece-sample f a n (a + i) hH hr (omega arith) (omega arith) scale evenWeights readings k j))
+
+-- plane k of what a call leaves
+pub promised : {f : Frame} {a n : ℕ} {piece : List ℕ} {lent after : Colour → List ℕ} {answer : ℕ} → Promise f a n piece lent answer after → (k : Colour) → after k ≡ left answer (stripPlane f a n piece k) (lent k)
+promised p Red = p .red
+promised p Green = p .green
+promised p Blue = p .blue
+
+-- DEMAND 2: an accepted call leaves the samples of rows a to a + n − 1 of every frame whose rows its piece is. Nothing is asked of the frame's other rows
+pub demand-2 : (f : Frame) (readings : List ℕ) (a n : ℕ) {lent after : Colour → List ℕ} {answer : ℕ} → Promise f a n (pieceOf (f .width) (f .height) a n readings) lent answer after → answer ≡ 0 → (k : Colour) → after k ≡ frameRows f readings a n k
+unfolding left
+demand-2 f readings a n {lent} p e k =
+    let piece = pieceOf (f .width) (f .height) a n readings in
+    let w = fits f a n piece _ _ _ (sym (p .number) ∙ e) in
+    promised p k ∙ ap (λ n′. left n′ (stripPlane f a n piece k) (lent k)) e ∙ strip-of-frame f readings a n (w .high) (w .rows) k

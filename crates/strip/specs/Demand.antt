@@ -12,7 +12,7 @@ use Rattle.bayer.specs.declared.frame.Frame.{Frame}
 use Rattle.bayer.specs.Colour.{colourAt}
 use Rattle.bayer.specs.Piece.{pieceOf}
 use Rattle.calls.specs.Calls.{Planes, stretch, put}
-use Rattle.demosaic.specs.Sample.{evenWeights}
+use Rattle.gbtf.specs.Weights.{evenWeights}
 use Rattle.demosaic.specs.Exact.{exactSample, printed}
 use Rattle.strip.specs.Strip.{stripNumber, Promise}
 

@@ -2,16 +2,17 @@
 use Prim.Native.Nat.{ℕ, zero, suc, _+_, _*_}
 use mathlib.Core.Path.{_≡_}
 use mathlib.Core.Bool.{Bool, false, not, _||_}
-use mathlib.Core.List.{List, [], _∷_}
+use mathlib.Core.List.{List, [], _∷_, _++_}
 use lib.Dec.{ltb, eqb}
 use lib.ListN.{length}
 use Rattle.bayer.specs.declared.colour.Colour.{Colour}
 use Rattle.bayer.specs.declared.colour.Colour.the-variants.{Red, Green, Blue}
 use Rattle.bayer.specs.declared.frame.Frame.{Frame}
-use Rattle.bayer.specs.Condition.{outsideSizes, unknown}
+use Rattle.bayer.specs.Condition.{frameCases}
 use Rattle.bayer.specs.Piece.{pieceStart, pieceRows}
-use Rattle.bayer.specs.Refusal.{_when_, sizeOutOfRange, unknownLayout, rowsOutsideFrame, wrongPieceLength, wrongPlaneLength, readingOutOfRange, firstOf}
-use Rattle.demosaic.specs.Sample.{sample, scale, evenWeights}
+use Rattle.bayer.specs.Refusal.{Case, _when_, rowsOutsideFrame, wrongPieceLength, wrongPlaneLength, readingOutOfRange, firstOf}
+use Rattle.gbtf.specs.Weights.{scale, evenWeights}
+use Rattle.demosaic.specs.Sample.{sample}
 use Rattle.green_rows.specs.Table.{table, joined}
 
 -- some reading is above m
@@ -19,21 +20,26 @@ unfoldable pub anyAbove : (m : ℕ) → List ℕ → Bool
 anyAbove m [] = false
 anyAbove m (x ∷ l) = ltb m x || anyAbove m l
 
--- the number of the refusal, the lowest that holds; 0: accepted. The call names f, a and n, and is lent a piece of the mosaic and planes of these lengths
-unfoldable pub stripNumber : Frame → (a n : ℕ) (piece : List ℕ) (red green blue : ℕ) → ℕ
-stripNumber f a n piece red green blue =
-    firstOf
-    ((sizeOutOfRange when (outsideSizes (f .width) || outsideSizes (f .height)))
-    ∷ (unknownLayout when unknown (f .layout))
-    ∷ (rowsOutsideFrame when (eqb n 0 || ltb (f .height) (a + n)))
+-- 3 to 6, of a call that names f, a and n, and is lent a piece of the mosaic and planes of these lengths
+abbrev pub callCases : Frame → (a n : ℕ) (piece : List ℕ) (red green blue : ℕ) → List Case
+callCases f a n piece red green blue =
+    (rowsOutsideFrame when (eqb n 0 || ltb (f .height) (a + n)))
     ∷ (wrongPieceLength when not (eqb (length piece) (pieceRows (f .height) a n * f .width)))
     ∷ (wrongPlaneLength when (not (eqb red (n * f .width)) || (not (eqb green (n * f .width)) || not (eqb blue (n * f .width)))))
     ∷ (readingOutOfRange when anyAbove 4095 piece)
-    ∷ [])
+    ∷ []
+
+-- the number of the refusal, the lowest that holds; 0: accepted
+unfoldable pub stripNumber : Frame → (a n : ℕ) (piece : List ℕ) (red green blue : ℕ) → ℕ
+stripNumber f a n piece red green blue = firstOf (frameCases f ++ callCases f a n piece red green blue)
 
 -- the samples of plane k, rows a to a + n − 1, that the rules give from the piece
 unfoldable pub stripPlane : Frame → (a n : ℕ) (piece : List ℕ) (k : Colour) → List ℕ
 stripPlane f a n piece k = joined (λ i. table (λ j. sample scale evenWeights f (pieceStart a) piece k (a + i) j) (f .width)) n
+
+-- those rows of the whole frame
+abbrev pub frameRows : Frame → (readings : List ℕ) (a n : ℕ) (k : Colour) → List ℕ
+frameRows f readings a n k = joined (λ i. table (λ j. sample scale evenWeights f 0 readings k (a + i) j) (f .width)) n
 
 -- what a lent plane holds after a call of this number: accepted, the samples delivered; refused, what it held
 unfoldable pub left : (number : ℕ) (delivered lent : List ℕ) → List ℕ

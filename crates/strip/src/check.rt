@@ -1,36 +1,15 @@
 ghost use mathlib.Core.Path.{_≡_};
 ghost use mathlib.Core.Bool.{not, _||_};
-ghost use mathlib.Core.List.{_∷_, []};
 ghost use Prim.Native.Nat.{_+_};
 ghost use lib.Dec.{ltb, eqb};
-ghost use Rattle.bayer.specs.Condition.{outsideSizes, unknown};
-ghost use Rattle.bayer.specs.Refusal.{firstOf, _when_, sizeOutOfRange, unknownLayout};
 ghost use Rattle.strip.specs.Strip.{anyAbove, stripNumber};
+use bayer::check::frame_check;
 use bayer::frame::Frame;
 use bayer::piece::piece_rows;
 use bayer::refusal::READING_OUT_OF_RANGE;
 use bayer::refusal::ROWS_OUTSIDE_FRAME;
-use bayer::refusal::SIZE_OUT_OF_RANGE;
-use bayer::refusal::UNKNOWN_LAYOUT;
 use bayer::refusal::WRONG_PIECE_LENGTH;
 use bayer::refusal::WRONG_PLANE_LENGTH;
-use bayer::view::outside_sizes;
-
-// Refusals 1 and 2.
-fn frame_check(frame: Frame) -> u32
-    ensures { λ r. ⌜ r ≡ firstOf ((sizeOutOfRange when (outsideSizes (frame .width) || outsideSizes (frame .height))) ∷ (unknownLayout when unknown (frame .layout)) ∷ []) ⌝ }
-{
-    if outside_sizes(frame.width) {
-        return SIZE_OUT_OF_RANGE;
-    }
-    if outside_sizes(frame.height) {
-        return SIZE_OUT_OF_RANGE;
-    }
-    if 3 < frame.layout {
-        return UNKNOWN_LAYOUT;
-    }
-    0
-}
 
 // Whether a strip has no row, or runs past the frame. The sum of a and n could wrap; the difference does not.
 fn rows_outside(h: usize, a: usize, n: usize) -> bool

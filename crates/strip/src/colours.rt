@@ -9,7 +9,7 @@ ghost use Rattle.bayer.specs.Mirror.{mirror};
 ghost use Rattle.green_rows.specs.Table.{joined};
 ghost use Rattle.green_rows.specs.Buffer.{AllAtMost};
 ghost use Rattle.green_rows.specs.Extended.{Lent};
-ghost use Rattle.strip.specs.Rows.{greenRow, colourRow, amongGreens};
+ghost use Rattle.strip.specs.Rows.{greenRow, colourRow, GreensOf, amongGreens};
 use bayer::colour::Colour;
 use bayer::colour::partner;
 use bayer::frame::Frame;
@@ -18,23 +18,24 @@ use fill_rows::rows::other_row;
 use fill_rows::rows::own_row;
 use green_rows::row::starts_green;
 
-// Row u of the greens above, in and below a strip of n rows.
+// Row v of the greens of rows a to a + n - 1 and of those above and below them.
 fn green_of<'a>(
     green: &'a [u16],
     above: &'a [u16],
     below: &'a [u16],
     w: usize,
+    a: usize,
     n: usize,
-    u: usize,
+    v: usize,
 ) -> &'a [u16]
-    requires { ⌜ (w ≤ 4096) × (n ≤ 4096) × (length (now green) ≡ n * w) × (u ≤ n + 1) ⌝ }
-    ensures { λ r. ⌜ now r ≡ amongGreens w n (now (green .entry)) (now (above .entry)) (now (below .entry)) u ⌝ }
+    requires { ⌜ (w ≤ 4096) × (a ≤ 4096) × (n ≤ 4096) × (length (now green) ≡ n * w) ⌝ }
+    ensures { λ r. ⌜ now r ≡ amongGreens w a n (now (green .entry)) (now (above .entry)) (now (below .entry)) v ⌝ }
 {
-    if u == 0 {
+    if v < a {
         return above;
     }
-    if u <= n {
-        let at = (u - 1) * w;
+    if v < a + n {
+        let at = (v - a) * w;
         let end = at + w;
         return &green[at..end];
     }
@@ -111,18 +112,20 @@ pub fn colour_rows<'a>(
     out: &mut [u16],
 )
     requires { ⌜ ((i : ℕ) → i < n → Lent frame start (length (now piece)) (a + i)) × (frame .layout ≤ 3) × (AllAtMost 4095 (now piece)) × (same k Green ≡ false) × (frame .width ≤ 4096) × (n ≤ 4096) × (a ≤ 4096) × (0 < n) × (a + n ≤ frame .height) ⌝ }
-    requires { ⌜ (now green ≡ joined (λ i. greenRow frame start (now piece) (a + i)) n) × (now above ≡ greenRow frame start (now piece) (mirror (frame .height) (pos a -ℤ pos 1))) × (now below ≡ greenRow frame start (now piece) (mirror (frame .height) (pos (a + n)))) × (length (now out) ≡ n * frame .width) ⌝ }
+    requires { ⌜ (GreensOf frame start (now piece) a n (now green) (now above) (now below)) × (8 ≤ frame .height) × (length (now out) ≡ n * frame .width) ⌝ }
     ensures { λ _. ⌜ now (out .exit) ≡ joined (λ i. colourRow frame start (now (piece .entry)) k (a + i)) n ⌝ }
 {
     let w = frame.width;
+    let h = frame.height;
     let mut i = 0;
     while i < n {
-        let ga = green_of(green, above, below, w, n, i);
-        let g = green_of(green, above, below, w, n, i + 1);
-        let gb = green_of(green, above, below, w, n, i + 2);
+        let v = a + i;
+        let ga = green_of(green, above, below, w, a, n, mirror(h, v, 1));
+        let g = green_of(green, above, below, w, a, n, v);
+        let gb = green_of(green, above, below, w, a, n, mirror(h, v + 1, 0));
         let at = i * w;
         let end = at + w;
-        colour_row(frame, start, piece, a + i, k, ga, g, gb, &mut out[at..end]);
+        colour_row(frame, start, piece, v, k, ga, g, gb, &mut out[at..end]);
         i += 1;
     }
 }

@@ -1,19 +1,41 @@
 ghost use mathlib.Core.Path.{_≡_};
 ghost use Prim.Native.Nat.{ℕ, _+_, _*_, _%_, _≤_, _<_};
-ghost use lib.IntN.{pos, _-ℤ_};
 ghost use lib.ListN.{length};
-ghost use Rattle.bayer.specs.Mirror.{mirror};
-ghost use Rattle.green_rows.specs.Table.{joined};
 ghost use Rattle.green_rows.specs.Buffer.{AllAtMost};
 ghost use Rattle.green_rows.specs.Extended.{Lent};
-ghost use Rattle.strip.specs.Rows.{greenRow};
+ghost use Rattle.strip.specs.Rows.{Readable, Beside, GreensOf};
 use bayer::frame::Frame;
-use bayer::mirror::mirror;
 use green_rows::row::green_row;
 use green_rows::row::green_rows;
 use green_rows::row::stride;
 
-// The greens of rows a to a + n - 1, and of the rows that are read above and below them. x, d and g are room to work in.
+// Green of row u - 1, if the frame has such a row. x, d and g are room to work in.
+fn green_beside(
+    frame: Frame,
+    start: usize,
+    piece: &[u16],
+    u: usize,
+    s: usize,
+    x: &mut [u16],
+    d: &mut [i32],
+    g: &mut [u32],
+    out: &mut [u16],
+)
+    requires { ⌜ ((v : ℕ) → v + 1 ≡ u → v < frame .height → Lent frame start (length (now piece)) v) × (frame .layout ≤ 3) × (AllAtMost 4095 (now piece)) ⌝ }
+    requires { ⌜ (s % 2 ≡ 1) × (frame .width + 14 ≤ s) × (s ≤ frame .width + 15) ⌝ }
+    requires { ⌜ (length (now x) ≡ 13 * s) × (length (now d) ≡ 12 * s) × (length (now g) + 2 ≡ 8 * s) × (length (now out) ≡ frame .width) ⌝ }
+    ensures { λ _. ⌜ Beside frame start (now (piece .entry)) u (now (out .exit)) ⌝ }
+{
+    if u == 0 {
+        return;
+    }
+    if frame.height < u {
+        return;
+    }
+    green_row(frame, start, piece, u - 1, s, x, d, g, out);
+}
+
+// The greens of rows a to a + n - 1, and of the rows above and below them that the frame has. At its edges the mirrored rows are among them already.
 fn greens_in(
     frame: Frame,
     start: usize,
@@ -28,18 +50,15 @@ fn greens_in(
     above: &mut [u16],
     below: &mut [u16],
 )
-    requires { ⌜ ((i : ℕ) → i < n → Lent frame start (length (now piece)) (a + i)) × (Lent frame start (length (now piece)) (mirror (frame .height) (pos a -ℤ pos 1))) × (Lent frame start (length (now piece)) (mirror (frame .height) (pos (a + n)))) × (frame .layout ≤ 3) × (AllAtMost 4095 (now piece)) ⌝ }
+    requires { ⌜ Readable frame start (now piece) a n ⌝ }
     requires { ⌜ (s % 2 ≡ 1) × (frame .width + 14 ≤ s) × (s ≤ frame .width + 15) × (n ≤ 4096) × (a ≤ 4096) × (frame .width ≤ 4096) ⌝ }
     requires { ⌜ (length (now x) ≡ 13 * s) × (length (now d) ≡ 12 * s) × (length (now g) + 2 ≡ 8 * s) ⌝ }
     requires { ⌜ (length (now green) ≡ n * frame .width) × (length (now above) ≡ frame .width) × (length (now below) ≡ frame .width) ⌝ }
-    ensures { λ _. ⌜ now (green .exit) ≡ joined (λ i. greenRow frame start (now (piece .entry)) (a + i)) n ⌝ }
-    ensures { λ _. ⌜ now (above .exit) ≡ greenRow frame start (now (piece .entry)) (mirror (frame .height) (pos a -ℤ pos 1)) ⌝ }
-    ensures { λ _. ⌜ now (below .exit) ≡ greenRow frame start (now (piece .entry)) (mirror (frame .height) (pos (a + n))) ⌝ }
+    ensures { λ _. ⌜ GreensOf frame start (now (piece .entry)) a n (now (green .exit)) (now (above .exit)) (now (below .exit)) ⌝ }
 {
-    let h = frame.height;
     green_rows(frame, start, piece, a, n, s, x, d, g, green);
-    green_row(frame, start, piece, mirror(h, a, 1), s, x, d, g, above);
-    green_row(frame, start, piece, mirror(h, a + n, 0), s, x, d, g, below);
+    green_beside(frame, start, piece, a, s, x, d, g, above);
+    green_beside(frame, start, piece, a + n + 1, s, x, d, g, below);
 }
 
 // The same, in as much of the room as rows of this width need. It is enough for rows of 4111 places.
@@ -56,12 +75,10 @@ fn greens_with(
     above: &mut [u16],
     below: &mut [u16],
 )
-    requires { ⌜ ((i : ℕ) → i < n → Lent frame start (length (now piece)) (a + i)) × (Lent frame start (length (now piece)) (mirror (frame .height) (pos a -ℤ pos 1))) × (Lent frame start (length (now piece)) (mirror (frame .height) (pos (a + n)))) × (frame .layout ≤ 3) × (AllAtMost 4095 (now piece)) ⌝ }
+    requires { ⌜ Readable frame start (now piece) a n ⌝ }
     requires { ⌜ (n ≤ 4096) × (a ≤ 4096) × (frame .width ≤ 4096) × (length (now green) ≡ n * frame .width) × (length (now above) ≡ frame .width) × (length (now below) ≡ frame .width) ⌝ }
     requires { ⌜ (length (now x) ≡ 53443) × (length (now d) ≡ 49332) × (length (now g) ≡ 32888) ⌝ }
-    ensures { λ _. ⌜ now (green .exit) ≡ joined (λ i. greenRow frame start (now (piece .entry)) (a + i)) n ⌝ }
-    ensures { λ _. ⌜ now (above .exit) ≡ greenRow frame start (now (piece .entry)) (mirror (frame .height) (pos a -ℤ pos 1)) ⌝ }
-    ensures { λ _. ⌜ now (below .exit) ≡ greenRow frame start (now (piece .entry)) (mirror (frame .height) (pos (a + n))) ⌝ }
+    ensures { λ _. ⌜ GreensOf frame start (now (piece .entry)) a n (now (green .exit)) (now (above .exit)) (now (below .exit)) ⌝ }
 {
     let s = stride(frame.width);
     let xs = 13 * s;
@@ -94,11 +111,9 @@ pub fn greens(
     above: &mut [u16],
     below: &mut [u16],
 )
-    requires { ⌜ ((i : ℕ) → i < n → Lent frame start (length (now piece)) (a + i)) × (Lent frame start (length (now piece)) (mirror (frame .height) (pos a -ℤ pos 1))) × (Lent frame start (length (now piece)) (mirror (frame .height) (pos (a + n)))) × (frame .layout ≤ 3) × (AllAtMost 4095 (now piece)) ⌝ }
+    requires { ⌜ Readable frame start (now piece) a n ⌝ }
     requires { ⌜ (n ≤ 4096) × (a ≤ 4096) × (frame .width ≤ 4096) × (length (now green) ≡ n * frame .width) × (length (now above) ≡ frame .width) × (length (now below) ≡ frame .width) ⌝ }
-    ensures { λ _. ⌜ now (green .exit) ≡ joined (λ i. greenRow frame start (now (piece .entry)) (a + i)) n ⌝ }
-    ensures { λ _. ⌜ now (above .exit) ≡ greenRow frame start (now (piece .entry)) (mirror (frame .height) (pos a -ℤ pos 1)) ⌝ }
-    ensures { λ _. ⌜ now (below .exit) ≡ greenRow frame start (now (piece .entry)) (mirror (frame .height) (pos (a + n))) ⌝ }
+    ensures { λ _. ⌜ GreensOf frame start (now (piece .entry)) a n (now (green .exit)) (now (above .exit)) (now (below .exit)) ⌝ }
 {
     let mut x = [0u16; 53443];
     let mut d = [0i32; 49332];

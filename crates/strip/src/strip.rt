@@ -29,30 +29,10 @@ fn fill_in(
 {
     let start = piece_start(a);
     greens(frame, start, piece, a, n, green, above, below);
-    colour_rows(
-        frame,
-        start,
-        piece,
-        a,
-        n,
-        Colour::Red,
-        green,
-        above,
-        below,
-        red,
-    );
-    colour_rows(
-        frame,
-        start,
-        piece,
-        a,
-        n,
-        Colour::Blue,
-        green,
-        above,
-        below,
-        blue,
-    );
+    let r = Colour::Red;
+    colour_rows(frame, start, piece, a, n, r, green, above, below, red);
+    let b = Colour::Blue;
+    colour_rows(frame, start, piece, a, n, b, green, above, below, blue);
 }
 
 // The same, in as much of the room as rows of this width need.

@@ -3,7 +3,8 @@ use Prim.Native.Nat.{_-_, _≤_}
 use native.Mathlib.Omega.{arith}
 use mathlib.Core.Path.{refl, _∙_}
 use lib.ListN.{length}
-use Rattle.green_rows.specs.Buffer.{greenIn, scale, evenWeights}
+use Rattle.gbtf.specs.Weights.{scale, evenWeights}
+use Rattle.green_rows.specs.Buffer.{greenIn}
 use Rattle.green_rows.proofs.TableLaws.{Filled, table-none, table-turn, table-done}
 use Rattle.green_rows.proofs.fuse.fuse.Statement.{statement}
 use Rattle.green_rows.proofs.fuse.fuse.Tie as tie

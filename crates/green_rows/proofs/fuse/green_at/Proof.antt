@@ -9,7 +9,8 @@ use Rattle.whole.proofs.Signed.{read-result}
 use Rattle.gbtf.specs.declared.direction.Direction.{Direction}
 use Rattle.gbtf.specs.Direction.{direction, directionSum}
 use Rattle.gbtf.specs.Fusion.{green, Fitting}
-use Rattle.green_rows.specs.Buffer.{eastIn, westIn, northIn, southIn, fusedIn, scale, evenWeights}
+use Rattle.gbtf.specs.Weights.{scale, evenWeights}
+use Rattle.green_rows.specs.Buffer.{eastIn, westIn, northIn, southIn, fusedIn}
 use Rattle.green_rows.proofs.BoundLaws.{fitting-in}
 use Rattle.green_rows.proofs.fuse.green_at.Statement.{statement}
 use Rattle.green_rows.proofs.fuse.green_at.Tie as tie

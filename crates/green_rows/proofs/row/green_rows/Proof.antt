@@ -9,7 +9,7 @@ use Rattle.bayer.specs.declared.frame.Frame.{Frame}
 use Rattle.gbtf.specs.Mosaic.{continued}
 use Rattle.gbtf.specs.GreenAt.{greenAt}
 use Rattle.green_rows.specs.Table.{table}
-use Rattle.green_rows.specs.Buffer.{scale, evenWeights}
+use Rattle.gbtf.specs.Weights.{scale, evenWeights}
 use Rattle.green_rows.proofs.TableLaws.{length-table, part-within, Handed, joined-none, joined-turn, joined-done}
 use Rattle.green_rows.proofs.PartLaws.{part-length}
 use Rattle.green_rows.proofs.row.green_rows.Statement.{statement}

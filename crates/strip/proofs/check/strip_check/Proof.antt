@@ -8,12 +8,12 @@ use borrow.Author.Needs.{needs}
 use borrow.Author.Tests.{eq-eqb, ne-eqb, ltb-false}
 use lib.Dec.{ltb, eqb}
 use lib.ListN.{length}
+use Rattle.bayer.specs.Condition.{frameCases}
 use Rattle.bayer.specs.Piece.{pieceRows}
 use Rattle.bayer.specs.Refusal.{firstOf}
-use Rattle.bayer.proofs.RefusalLaws.{off, neither}
-use Rattle.strip.specs.Strip.{anyAbove, stripNumber}
+use Rattle.bayer.proofs.RefusalLaws.{off, later, sooner, neither}
+use Rattle.strip.specs.Strip.{anyAbove, callCases, stripNumber}
 use Rattle.strip.proofs.StripLaws.{size-fits}
-use Rattle.strip.proofs.NumberLaws.{frameCases, callCases, frame-fails, frame-passes}
 use Rattle.strip.proofs.check.strip_check.Statement.{statement}
 use Rattle.strip.proofs.check.strip_check.Tie as tie
 
@@ -21,9 +21,8 @@ frame-check-requires : tie.Need-frame-check-requires
 frame-check-requires c κs = search needs
 
 returns : tie.Need-returns
-returns c =
-    let s = c .before .before .before in
-    c .before .frame-check .ensures ∙ sym (frame-fails (s .args .frame) (s .args .a) (s .args .n) (s .args .piece .now) (s .args .red) (s .args .green) (s .args .blue) (λ e. c .if1 .taken (c .before .frame-check .ensures ∙ e)))
+unfolding stripNumber
+returns c = c .before .frame-check .ensures ∙ sym (sooner (frameCases (c .before .before .before .args .frame)) _ (λ e. c .if1 .taken (c .before .frame-check .ensures ∙ e)))
 
 zero : (c : tie.Else1) → firstOf (frameCases (c .before .before .before .args .frame)) ≡ 0
 zero c = sym (c .before .frame-check .ensures) ∙ c .if1 .left
@@ -31,7 +30,10 @@ zero c = sym (c .before .frame-check .ensures) ∙ c .if1 .left
 -- the frame is passed: the rest of the call decides
 passed : (c : tie.Else1) → let a = c .before .before .before .args in
     stripNumber (a .frame) (a .a) (a .n) (a .piece .now) (a .red) (a .green) (a .blue) ≡ firstOf (callCases (a .frame) (a .a) (a .n) (a .piece .now) (a .red) (a .green) (a .blue))
-passed c = let a = c .before .before .before .args in frame-passes (a .frame) (a .a) (a .n) (a .piece .now) (a .red) (a .green) (a .blue) (zero c)
+unfolding stripNumber
+passed c =
+    let a = c .before .before .before .args in
+    later (frameCases (a .frame)) (callCases (a .frame) (a .a) (a .n) (a .piece .now) (a .red) (a .green) (a .blue)) (off (frameCases (a .frame)) (zero c))
 
 sizes : (c : tie.Else1) → (c .before .before .before .args .frame .width ≤ 4096) × (c .before .before .before .args .frame .height ≤ 4096)
 sizes c =

@@ -4,6 +4,7 @@ use mathlib.Core.Path.{sym, _∙_, refl}
 use native.Mathlib.Nat.{mul-le-mul}
 use native.Mathlib.Omega.{arith}
 use lib.ListN.{length}
+use borrow.Author.Needs.{needs}
 use Rattle.green_rows.proofs.TableLaws.{part-within}
 use Rattle.green_rows.proofs.PartLaws.{row-is}
 use Rattle.strip.proofs.GreenAmong.{among-first, among-inner, among-last}
@@ -11,17 +12,17 @@ use Rattle.strip.proofs.colours.green_of.Statement.{statement}
 use Rattle.strip.proofs.colours.green_of.Tie as tie
 
 returns : tie.Need-returns
-returns c = let a = c .before .args in sym (among-first (a .w) (a .n) (a .green .now) (a .above .now) (a .below .now) (a .u) (c .if1 .taken))
+returns c = let a = c .before .args in sym (among-first (a .w) (a .a) (a .n) (a .green .now) (a .above .now) (a .below .now) (a .v) (c .if1 .taken))
 
 -- the row that is shown lies in green
-shows : (c : tie.Then2) → let a = c .before .before .args in ((a .u - 1) * a .w + a .w ≤ length (a .green .now)) × (length (a .green .now) ≤ 4096 * 4096)
+shows : (c : tie.Then2) → let a = c .before .before .args in ((a .v - a .a) * a .w + a .w ≤ length (a .green .now)) × (length (a .green .now) ≤ 4096 * 4096)
 shows c =
     let s = c .before .before in
-    let h : s .args .u - 1 + 1 ≤ s .args .n = omega (arith, c .before .if1 .left, c .if2 .taken) in
-    rw (s .pre .2) (part-within (s .args .w) (omega arith), mul-le-mul (s .pre .1) (s .pre .0))
+    let h : s .args .v - s .args .a + 1 ≤ s .args .n = omega (arith, c .before .if1 .left, c .if2 .taken) in
+    rw (s .pre .3) (part-within (s .args .w) (omega arith), mul-le-mul (s .pre .2) (s .pre .0))
 
-sub-at : tie.Need-sub-at
-sub-at c = omega (arith, c .before .if1 .left)
+add-if2 : tie.Need-add-if2
+add-if2 c = search needs
 
 mul-at : tie.Need-mul-at
 mul-at c = omega (arith, shows c)
@@ -45,17 +46,17 @@ returns-2 : tie.Need-returns-2
 returns-2 c =
     let t = c .before in
     let a = t .before .before .args in
-    row-is (a .w) (a .u - 1) (a .green .now) refl ∙ sym (among-inner (a .w) (a .n) (a .green .now) (a .above .now) (a .below .now) (a .u) (omega (arith, t .before .if1 .left)) (t .if2 .taken))
+    row-is (a .w) (a .v - a .a) (a .green .now) refl ∙ sym (among-inner (a .w) (a .a) (a .n) (a .green .now) (a .above .now) (a .below .now) (a .v) (t .before .if1 .left) (t .if2 .taken))
 
 returns-3 : tie.Need-returns-3
-returns-3 c = let a = c .before .before .args in sym (among-last (a .w) (a .n) (a .green .now) (a .above .now) (a .below .now) (a .u) (c .if2 .left))
+returns-3 c = let a = c .before .before .args in sym (among-last (a .w) (a .a) (a .n) (a .green .now) (a .above .now) (a .below .now) (a .v) (c .before .if1 .left) (c .if2 .left))
 
 pub green-of-spec : {M : Type 1} → statement M
 green-of-spec =
     tie.close
     (tie.spec
     returns
-    sub-at
+    add-if2
     mul-at
     add-end
     mul-result

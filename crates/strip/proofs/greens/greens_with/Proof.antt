@@ -63,7 +63,7 @@ greens-in-requires c κs =
     let s = c .before .before .before .before .before .before .before .before .before .before .before .before .before in
     let t = c .before .before .before .before .before .before .stride in
     let h : t .result ≤ 4111 = omega (arith, t .ensures .2, s .pre .1 .0 .2) in
-    let b : 22 ≤ t .result = omega (arith, t .ensures .1, (s .pre .0 .1) .wide) in (
+    let b : 22 ≤ t .result = omega (arith, t .ensures .1, s .pre .0 .4) in (
       s .pre .0,
       (
         (t .ensures .0, t .ensures .1, t .ensures .2, s .pre .1 .0 .0, s .pre .1 .0 .1, s .pre .1 .0 .2),

@@ -27,14 +27,14 @@ colour-rows-requires c κs =
     let s = c .before .before .before .before .before .before .before .before .before .before .before .before .before .before .before .before .before .before .before .before .before in
     let w = fitting s in
     let g = c .before .before .before .before .before .before .before .before .before .before .greens .ensures in
-    (colours-ready (s .args .frame) (s .args .a) (s .args .n) (s .args .piece .now) w _ (c .before .before .before .before .before .before .before .before .before .before .before .before .before .before .piece-start .ensures) _ refl, (g .0, g .1 .0, g .1 .1, w .reds))
+    (colours-ready (s .args .frame) (s .args .a) (s .args .n) (s .args .piece .now) w _ (c .before .before .before .before .before .before .before .before .before .before .before .before .before .before .piece-start .ensures) _ refl, (g, w .high, w .reds))
 
 colour-rows-requires-2 : tie.Need-colour-rows-requires-2
 colour-rows-requires-2 c κs =
     let s = c .before .before .before .before .before .before .before .before .before .before .before .before .before .before .before .before .before .before .before .before .before .before .before .before .before .before .before .before in
     let w = fitting s in
     let g = c .before .before .before .before .before .before .before .before .before .before .before .before .before .before .before .before .before .greens .ensures in
-    (colours-ready (s .args .frame) (s .args .a) (s .args .n) (s .args .piece .now) w _ (c .before .before .before .before .before .before .before .before .before .before .before .before .before .before .before .before .before .before .before .before .before .piece-start .ensures) _ refl, (g .0, g .1 .0, g .1 .1, w .blues))
+    (colours-ready (s .args .frame) (s .args .a) (s .args .n) (s .args .piece .now) w _ (c .before .before .before .before .before .before .before .before .before .before .before .before .before .before .before .before .before .before .before .before .before .piece-start .ensures) _ refl, (g, w .high, w .blues))
 
 same-length : tie.Need-same-length
 same-length c = search needs

@@ -1,0 +1,32 @@
+ghost use mathlib.Core.Path.{_≡_};
+ghost use Rattle.bayer.specs.Condition.{outsideSizes, frameCases};
+ghost use Rattle.bayer.specs.Refusal.{firstOf};
+use crate::frame::Frame;
+use crate::refusal::SIZE_OUT_OF_RANGE;
+use crate::refusal::UNKNOWN_LAYOUT;
+
+// Whether a width or a height is outside 8 to 4096.
+pub fn outside_sizes(n: usize) -> bool
+    ensures { λ r. ⌜ r ≡ outsideSizes n ⌝ }
+{
+    if n < 8 {
+        return true;
+    }
+    4096 < n
+}
+
+// Refusals 1 and 2, of a frame description.
+pub fn frame_check(frame: Frame) -> u32
+    ensures { λ r. ⌜ r ≡ firstOf (frameCases frame) ⌝ }
+{
+    if outside_sizes(frame.width) {
+        return SIZE_OUT_OF_RANGE;
+    }
+    if outside_sizes(frame.height) {
+        return SIZE_OUT_OF_RANGE;
+    }
+    if 3 < frame.layout {
+        return UNKNOWN_LAYOUT;
+    }
+    0
+}
