@@ -12,3 +12,5 @@ pub const WRONG_PLANE_LENGTH: u32 = 5;
 pub const READING_OUT_OF_RANGE: u32 = 6;
 
 pub const ROW_MISSING: u32 = 7;
+
+pub const MALFORMED_FILE: u32 = 8;

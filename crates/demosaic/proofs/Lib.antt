@@ -1,6 +1,7 @@
 pub mod FillLaws
 pub mod FillError
 pub mod Neighbours
+pub mod SampleRange
 pub mod SampleError
 pub mod SampleLocal
 pub mod FrameLocal

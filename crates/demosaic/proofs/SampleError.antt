@@ -1,13 +1,12 @@
 -- The printed error: where readings are at most 4095, green is within 51 hundredths of the exact reconstruction, and red and blue within 151. By way of green's sharp bound, since twice 0.51 and a half are above 1.51. Assumes nothing.
 use mathlib.Core.Path.{_≡_, refl}
+use mathlib.Core.Bool.{cond}
 use mathlib.Core.List.{List}
-use Prim.Native.Nat.{ℕ, _+_, _*_, _-_, _≤_, _<_}
-use native.Mathlib.Decide.{decLt}
+use Prim.Native.Nat.{ℕ, _+_, _*_, _-_, _/_, _≤_, _<_}
 use native.Mathlib.Omega.{arith}
 use lib.Dec.{lit≤}
 use lib.IntN.{ℤ, pos}
-use lib.ListN.{length, getD, take, drop, length-take, List·getD-eq-default}
-use lib.Seq.{getD-take, getD-drop}
+use lib.ListN.{length, getD}
 use Rattle.whole.specs.Fraction.{Fraction, natural, Within}
 use Rattle.whole.proofs.FractionLaws.{within-same, within-wider}
 use Rattle.bayer.specs.declared.colour.Colour.{Colour}
@@ -17,14 +16,16 @@ use Rattle.bayer.specs.Colour.{same}
 use Rattle.bayer.specs.Mirror.{mirror}
 use Rattle.bayer.specs.View.{rowOf}
 use Rattle.gbtf.specs.Direction.{total}
+use Rattle.gbtf.specs.Fusion.{green}
 use Rattle.gbtf.specs.Mosaic.{Mosaic, continued}
 use Rattle.gbtf.specs.GreenAt.{greenAt, exactGreenAt}
 use Rattle.gbtf.proofs.GreenBound.{within-cond, greenAt-sharp}
 use Rattle.demosaic.specs.Fill.{fill, sumOf}
 use Rattle.gbtf.specs.Weights.{scale, evenWeights}
-use Rattle.demosaic.specs.Sample.{Pixel, diagonal, inRow, inColumn, readingOf, colourDifferences, otherFrom, sampleFrom, sample}
+use Rattle.demosaic.specs.Sample.{neighbours, Pixel, diagonal, inRow, inColumn, readingOf, colourDifferences, otherFrom, sampleFrom, sample}
 use Rattle.demosaic.specs.Exact.{exactFill, exactDifferences, exactOtherFrom, exactFrom, exactSample, printed}
 use Rattle.demosaic.proofs.Neighbours.{neighbours-cases}
+use Rattle.demosaic.proofs.SampleRange.{row-range}
 use Rattle.demosaic.proofs.FillError.{fill-within}
 use Rattle.whole.proofs.Lists.{everywhere}
 
@@ -61,13 +62,7 @@ module _ (K : ℕ) (hK : 0 < K) (ws : List ℕ) (hT : 0 < total ws) (f : Frame) 
   -- a frame, from its rows from row `first` on
   pub sample-error : (first : ℕ) (rows : List ℕ) → ((n : ℕ) → getD rows n 0 ≤ 4095) → (k : Colour) (i j : ℕ) → Within (natural (sample K ws f first rows k i j)) (exactSample ws hT f first rows k i j) (figure k) 100
   unfolding sample exactSample rowOf
-  sample-error first rows range k i j = mosaic-error (continued f first rows) (λ i j. row-range (mirror (f .height) i - first) (mirror (f .width) j)) k (pos i) (pos j)
-    where
-      row-range : (r c : ℕ) → getD (rowOf (f .width) r rows) c 0 ≤ 4095
-      row-range r c = elim (decLt c (f .width)) [
-        | yes h ↦ rw (getD-take (f .width) (drop (r * f .width) rows) c 0 h, getD-drop (r * f .width) rows c 0) (range (r * f .width + c))
-        | no h ↦ rw (List·getD-eq-default (take (f .width) (drop (r * f .width) rows)) 0 {n = c} (simp length-take (omega arith))) (omega arith)
-      ]
+  sample-error first rows range k i j = mosaic-error (continued f first rows) (λ i j. row-range (f .width) rows range (mirror (f .height) i - first) (mirror (f .width) j)) k (pos i) (pos j)
 
 -- THE PRINTED ERROR of document 01: green within 51 hundredths, red and blue within 151
 pub printed-error : (f : Frame) (first : ℕ) (rows : List ℕ) → ((n : ℕ) → getD rows n 0 ≤ 4095)

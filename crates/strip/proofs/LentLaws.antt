@@ -1,18 +1,17 @@
 -- The rows that an accepted strip works out have all they read among the rows of its piece. Assumes nothing.
-use mathlib.Core.Path.{_≡_, refl, sym, subst}
-use Prim.Native.Nat.{ℕ, zero, suc, _+_, _*_, _-_, _≤_, _<_, min, max}
+use mathlib.Core.Path.{_≡_, sym, subst}
+use Prim.Native.Nat.{ℕ, _+_, _*_, _-_, _≤_, _<_, min, max}
 use mathlib.Core.Bool.{Bool, false}
 use mathlib.Core.List.{List}
 use native.Mathlib.Nat.{mul-le-mul-right}
 use native.Mathlib.Omega.{arith}
-use lib.IntN.{ℤ, pos, negsuc, subℕ, _-ℤ_}
+use lib.IntN.{subℕ}
 use lib.ListN.{length}
 use Rattle.whole.specs.Parts.{up, down}
-use Rattle.whole.proofs.Pairs.{subₚ, differs, sub-pos}
+use Rattle.whole.proofs.Pairs.{subₚ, differs}
 use Rattle.bayer.specs.declared.frame.Frame.{Frame}
 use Rattle.bayer.specs.Mirror.{mirror}
 use Rattle.bayer.specs.Piece.{pieceStart, pieceEnd, pieceRows}
-use Rattle.bayer.proofs.MirrorLaws.{mirror-is, mirror-inside}
 use Rattle.demosaic.proofs.FrameLocal.{in-piece}
 use Rattle.green_rows.specs.Buffer.{AllAtMost}
 use Rattle.green_rows.specs.Extended.{Lent}

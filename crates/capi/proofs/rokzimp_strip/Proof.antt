@@ -1,0 +1,25 @@
+-- `capi::rokzimp_strip` meets its contract. Assumes nothing.
+use borrow.Author.Needs.{needs}
+use Rattle.capi.proofs.rokzimp_strip.Statement.{statement}
+use Rattle.capi.proofs.rokzimp_strip.Tie as tie
+
+new-requires : tie.Need-new-requires
+new-requires c κs = search needs
+
+strip-requires : tie.Need-strip-requires
+strip-requires c κs = search needs
+
+same-length : tie.Need-same-length
+same-length c = search needs
+
+same-length-2 : tie.Need-same-length-2
+same-length-2 c = search needs
+
+same-length-3 : tie.Need-same-length-3
+same-length-3 c = search needs
+
+returns : tie.Need-returns
+returns c = rw (← c .before .before .before .before .before .before .before .before .before .before .new .ensures .0, ← c .before .before .before .before .before .before .before .before .before .before .new .ensures .1, ← c .before .before .before .before .before .before .before .before .before .before .new .ensures .2) (c .before .before .before .before .before .before .strip .ensures)
+
+pub rokzimp-strip-spec : {M : Type 1} → statement M
+rokzimp-strip-spec = tie.close (tie.spec new-requires strip-requires same-length same-length-2 same-length-3 returns)

@@ -1,0 +1,39 @@
+ghost use Prim.Native.Nat.{_≤_};
+ghost use lib.IntN.{natAbs};
+ghost use Rattle.gbtf.specs.Fusion.{Fitting};
+use crate::print;
+use gbtf::direction::Direction;
+use gbtf::fusion::green;
+use green_rows::fuse::SCALE;
+use green_rows::fuse::TOTAL;
+
+// A five-sum, which the case gives with 524288 added.
+fn five_sum(a: usize) -> i64
+    ensures { λ r. ⌜ natAbs r ≤ 2097152 ⌝ }
+{
+    (a % 1572864) as i64 - 524288
+}
+
+fn direction(s: usize, a: usize) -> Direction
+    ensures { λ r. ⌜ Fitting 134217728 r ⌝ }
+{
+    Direction {
+        differences: five_sum(a),
+        gradients: (s % 294841) as u64,
+    }
+}
+
+fn reading(c: usize) -> u16 {
+    (c % 4096) as u16
+}
+
+// Green by fusion of four directions.
+pub fn run(f: &[usize; 32]) {
+    let east = direction(f[2], f[6]);
+    let west = direction(f[3], f[7]);
+    let north = direction(f[4], f[8]);
+    let south = direction(f[5], f[9]);
+    let g = green(SCALE, TOTAL, reading(f[1]), east, west, north, south);
+    io::print_decimal(1, print::sample(g));
+    io::write_all(1, b"\n");
+}

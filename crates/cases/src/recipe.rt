@@ -1,0 +1,126 @@
+// The contents of lent samples, by the recipe that tools/make_cases.py gives.
+ghost use Prim.Native.Nat.{_<_};
+
+// The generator: the next state.
+fn step(x: usize) -> usize
+    ensures { λ r. ⌜ r < 4294967296 ⌝ }
+{
+    (1664525 * (x % 4294967296) + 1013904223) % 4294967296
+}
+
+fn low(x: usize) -> usize
+    ensures { λ r. ⌜ r < 65536 ⌝ }
+{
+    x % 65536
+}
+
+fn narrow(x: usize) -> u16 {
+    (x % 65536) as u16
+}
+
+fn times(a: usize, b: usize) -> usize
+    ensures { λ r. ⌜ r < 4294967296 ⌝ }
+{
+    low(a) * low(b)
+}
+
+fn noise(f: &[usize; 32], x: usize) -> usize
+    ensures { λ r. ⌜ r < 4294967296 ⌝ }
+{
+    let amount = f[21];
+    if low(f[20]) == 0 {
+        return times(x / 1048576, amount) / 4096;
+    }
+    if low(f[20]) == 1 {
+        return times(x / 2147483648, amount);
+    }
+    if x < 268435456 {
+        return times(x / 1048576 % 4, amount);
+    }
+    0
+}
+
+// The step of an edge, from the diagonal on.
+fn edge(f: &[usize; 32], diagonal: usize) -> usize
+    ensures { λ r. ⌜ r < 65536 ⌝ }
+{
+    if diagonal < low(f[18]) {
+        return 0;
+    }
+    low(f[19])
+}
+
+// A reading of this shape.
+fn shaped(shape: usize, v: usize) -> usize
+    ensures { λ r. ⌜ r < 4096 ⌝ }
+{
+    if shape == 1 {
+        return v % 4096;
+    }
+    if 4095 <= v {
+        return if shape == 0 { 4095 } else { 0 };
+    }
+    if shape == 0 { v } else { 4095 - v }
+}
+
+// The reading at row i and column j.
+fn reading(f: &[usize; 32], x: usize, i: usize, j: usize) -> u16 {
+    let diagonal = low(i) + low(j);
+    let ramp = low(f[12]) + times(f[13], i) + times(f[14], j);
+    let tiles = times(f[15], i % 2) + times(f[16], j % 2) + times(f[17], diagonal % 2);
+    let v = ramp + tiles + edge(f, diagonal) + noise(f, x);
+    narrow(shaped(low(f[22]), v))
+}
+
+fn at_least_one(x: usize) -> usize
+    ensures { λ r. ⌜ 0 < r ⌝ }
+{
+    if x == 0 { 1 } else { x }
+}
+
+fn fill(f: &[usize; 32], piece: &mut [u16]) {
+    let width = at_least_one(f[10]);
+    let first = low(f[27]);
+    let mut x = f[11];
+    let mut t = 0;
+    while t < piece.len() {
+        x = step(x);
+        let row = low(t / width) + first;
+        let column = t % width;
+        piece[t] = reading(f, x, row, column);
+        t += 1;
+    }
+}
+
+fn put(piece: &mut [u16], at: usize, value: usize) {
+    if at < piece.len() {
+        piece[at] = narrow(value);
+    }
+}
+
+// A piece of the mosaic.
+pub fn piece(f: &[usize; 32], piece: &mut [u16]) {
+    fill(f, piece);
+    put(piece, f[23], f[24]);
+    put(piece, f[25], f[26]);
+}
+
+// What a plane holds before a call.
+pub fn plane(seed: usize, samples: &mut [u16]) {
+    let mut x = seed;
+    let mut t = 0;
+    while t < samples.len() {
+        x = step(x);
+        samples[t] = narrow(x / 65536);
+        t += 1;
+    }
+}
+
+// Samples that count up from a number.
+pub fn count(from: usize, samples: &mut [u16]) {
+    let mut t = 0;
+    while t < samples.len() {
+        samples[t] = narrow(low(from) + low(t));
+        t += 1;
+    }
+}

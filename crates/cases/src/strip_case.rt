@@ -1,0 +1,70 @@
+use crate::fields::layout;
+use crate::fields::least;
+use crate::print;
+use crate::recipe;
+use bayer::frame::Frame;
+use strip::check::strip_check;
+use strip::strip::strip;
+
+fn frame(f: &[usize; 32]) -> Frame {
+    Frame::new(f[1], f[2], layout(f[3]))
+}
+
+// The answer: the two numbers, and the planes.
+fn show(got: u32, first: u32, red: &[u16], green: &[u16], blue: &[u16]) {
+    io::print_decimal(1, print::refusal(got));
+    print::number(print::refusal(first));
+    print::plane(red);
+    print::plane(green);
+    print::plane(blue);
+    io::write_all(1, b"\n");
+}
+
+// The number that the check gives, then the call.
+fn call(f: &[usize; 32], piece: &[u16], red: &mut [u16], green: &mut [u16], blue: &mut [u16]) {
+    let first = strip_check(
+        frame(f),
+        f[4],
+        f[5],
+        piece,
+        red.len(),
+        green.len(),
+        blue.len(),
+    );
+    let got = strip(frame(f), f[4], f[5], piece, red, green, blue);
+    show(got, first, red, green, blue);
+}
+
+// Lent samples as the case asks for.
+fn lend(f: &[usize; 32], piece: &mut [u16], red: &mut [u16], green: &mut [u16], blue: &mut [u16]) {
+    let seed = f[11] % 4294967296;
+    recipe::piece(f, piece);
+    recipe::plane(seed + 1, red);
+    recipe::plane(seed + 2, green);
+    recipe::plane(seed + 3, blue);
+    call(f, piece, red, green, blue);
+}
+
+// As much of the room as the case asks for.
+fn cut(f: &[usize; 32], piece: &mut [u16], red: &mut [u16], green: &mut [u16], blue: &mut [u16]) {
+    let p = least(f[6], piece.len());
+    let r = least(f[7], red.len());
+    let g = least(f[8], green.len());
+    let b = least(f[9], blue.len());
+    lend(
+        f,
+        &mut piece[0..p],
+        &mut red[0..r],
+        &mut green[0..g],
+        &mut blue[0..b],
+    );
+}
+
+// A strip call.
+pub fn run(f: &[usize; 32]) {
+    let mut piece = [0u16; 90112];
+    let mut red = [0u16; 32776];
+    let mut green = [0u16; 32776];
+    let mut blue = [0u16; 32776];
+    cut(f, &mut piece, &mut red, &mut green, &mut blue);
+}

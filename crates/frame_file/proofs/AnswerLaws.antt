@@ -1,0 +1,47 @@
+-- What a strip call on the whole frame of a file answers is what the program prints. Assumes nothing.
+use Prim.Native.Nat.{ℕ, zero, suc, _*_}
+use mathlib.Core.Path.{_≡_, refl, sym, ap, _∙_}
+use mathlib.Core.Bool.{true, false}
+use mathlib.Core.List.{List}
+use lib.ListN.{length}
+use Rattle.bayer.specs.declared.colour.Colour.{Colour}
+use Rattle.bayer.specs.declared.colour.Colour.the-variants.{Red, Green, Blue}
+use Rattle.bayer.specs.declared.frame.Frame.{Frame}
+use Rattle.strip.specs.Strip.{stripPlane, left, Promise}
+use Rattle.frame_file.specs.Text.{refusalLine}
+use Rattle.frame_file.specs.FrameFile.{frameOf, readings, malformed, fileNumber, framePlane, lines, answered, output}
+use Rattle.frame_file.proofs.FileLaws.{torn, number-is, plane-is}
+
+pub torn-line : (bytes : List ℕ) → malformed bytes ≡ true → output bytes ≡ refusalLine 8
+unfolding output answered
+torn-line bytes e = rw (torn bytes e)
+
+refuses : (n : ℕ) (accepted : List ℕ) → (n ≡ 0 → ⊥) → answered n accepted ≡ refusalLine n
+unfolding answered
+refuses zero accepted h = absurd (h refl)
+refuses (suc n) accepted h = refl
+
+same-lines : (p q : Colour → List ℕ) → p Red ≡ q Red → p Green ≡ q Green → p Blue ≡ q Blue → lines p ≡ lines q
+unfolding lines
+same-lines p q r g b = rw (r, g, b)
+
+module _ (bytes : List ℕ) (well : malformed bytes ≡ false) (f : Frame) (e : f ≡ frameOf bytes) (piece : List ℕ) (m : piece ≡ readings bytes)
+    (lent after : Colour → List ℕ) (number : ℕ) (p : Promise f 0 (f .height) piece lent number after)
+    (r : length (lent Red) ≡ f .width * f .height) (g : length (lent Green) ≡ f .width * f .height) (b : length (lent Blue) ≡ f .width * f .height) where
+  size : f .width * f .height ≡ frameOf bytes .width * frameOf bytes .height
+  size = ap (λ (x : Frame). x .width * x .height) e
+
+  numbered : number ≡ fileNumber bytes
+  numbered = p .number ∙ rw (e, m) (number-is bytes well (r ∙ size) (g ∙ size) (b ∙ size))
+
+  pub refused : (number ≡ 0 → ⊥) → output bytes ≡ refusalLine number
+  unfolding output
+  refused h = rw (← numbered) (refuses number _ h)
+
+  filled : (k : Colour) {plane : List ℕ} → number ≡ 0 → plane ≡ left number (stripPlane f 0 (f .height) piece k) (lent k) → plane ≡ framePlane (frameOf bytes) (readings bytes) k
+  unfolding left
+  filled k z h = h ∙ rw (z, e, m) (plane-is (frameOf bytes) (readings bytes) k)
+
+  pub delivered : number ≡ 0 → output bytes ≡ lines after
+  unfolding output answered
+  delivered z = rw (← numbered, z) (sym (same-lines _ _ (filled Red z (p .red)) (filled Green z (p .green)) (filled Blue z (p .blue))))

@@ -1,0 +1,61 @@
+-- `frame_file::answer::answer` meets its contract. Assumes nothing.
+use mathlib.Core.Path.{refl, sym, _∙_}
+use native.Mathlib.Omega.{arith}
+use borrow.Author.Needs.{needs}
+use Rattle.frame_file.proofs.AnswerLaws.{torn-line}
+use Rattle.frame_file.proofs.answer.answer.Statement.{statement}
+use Rattle.frame_file.proofs.answer.answer.Tie as tie
+
+is-malformed-requires : tie.Need-is-malformed-requires
+is-malformed-requires c κs = search needs
+
+put-refusal-line-requires : tie.Need-put-refusal-line-requires
+put-refusal-line-requires c κs = search needs
+
+same-length : tie.Need-same-length
+same-length c = search needs
+
+returns : tie.Need-returns
+returns c =
+    let p = c .before .before in
+    let m = p .before .before .before in
+    (rw (torn-line (m .before .before .before .args .bytes .now) (sym (m .is-malformed .ensures) ∙ p .before .before .if1 .taken)) (p .put-refusal-line .ensures .0), omega (arith, p .put-refusal-line .ensures .1))
+
+slice-aggregate-file-answer : tie.Need-slice-aggregate-file-answer
+slice-aggregate-file-answer c = search needs
+
+slice-aggregate-file-answer-2 : tie.Need-slice-aggregate-file-answer-2
+slice-aggregate-file-answer-2 c = search needs
+
+slice-aggregate-file-answer-3 : tie.Need-slice-aggregate-file-answer-3
+slice-aggregate-file-answer-3 c = search needs
+
+slice-aggregate-file-answer-4 : tie.Need-slice-aggregate-file-answer-4
+slice-aggregate-file-answer-4 c = search needs
+
+file-answer-requires : tie.Need-file-answer-requires
+file-answer-requires c κs =
+    let e = c .before .before .before .before .before in
+    ((sym (e .before .is-malformed .ensures) ∙ e .if1 .left, omega (arith, e .before .before .before .before .pre)), (refl, refl, refl, refl))
+
+same-length-2 : tie.Need-same-length-2
+same-length-2 c = search needs
+
+returns-2 : tie.Need-returns-2
+returns-2 c = search needs
+
+pub answer-spec : {M : Type 1} → statement M
+answer-spec =
+    tie.close
+    (tie.spec
+    is-malformed-requires
+    put-refusal-line-requires
+    same-length
+    returns
+    slice-aggregate-file-answer
+    slice-aggregate-file-answer-2
+    slice-aggregate-file-answer-3
+    slice-aggregate-file-answer-4
+    file-answer-requires
+    same-length-2
+    returns-2)

@@ -1,0 +1,39 @@
+-- `frame_file::file::frame_of` meets its contract. Assumes nothing.
+use mathlib.Core.Path.{_∙_}
+use borrow.Author.Needs.{needs}
+use Rattle.frame_file.proofs.FileLaws.{frame-is}
+use Rattle.frame_file.proofs.file.frame_of.Statement.{statement}
+use Rattle.frame_file.proofs.file.frame_of.Tie as tie
+
+two-bytes-requires : tie.Need-two-bytes-requires
+two-bytes-requires c κs = search needs
+
+cast-w : tie.Need-cast-w
+cast-w c = search needs
+
+two-bytes-requires-2 : tie.Need-two-bytes-requires-2
+two-bytes-requires-2 c κs = search needs
+
+cast-h : tie.Need-cast-h
+cast-h c = search needs
+
+shared-slice-read-new : tie.Need-shared-slice-read-new
+shared-slice-read-new c = search needs
+
+new-requires : tie.Need-new-requires
+new-requires c κs = search needs
+
+returns : tie.Need-returns
+returns c = let e = c .new .ensures in frame-is (c .new .result) (e .0 ∙ c .before .before .before .two-bytes .ensures) (e .1 ∙ c .before .before .two-bytes2 .ensures) (e .2)
+
+pub frame-of-spec : {M : Type 1} → statement M
+frame-of-spec =
+    tie.close
+    (tie.spec
+    two-bytes-requires
+    cast-w
+    two-bytes-requires-2
+    cast-h
+    shared-slice-read-new
+    new-requires
+    returns)

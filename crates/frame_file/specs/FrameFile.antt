@@ -1,0 +1,63 @@
+-- The frame file, and what the small program prints of it. Assumes nothing.
+use Prim.Native.Nat.{ℕ, zero, suc, _+_, _*_}
+use mathlib.Core.Bool.{Bool, not, _||_}
+use mathlib.Core.List.{List, [], _∷_, _++_}
+use lib.Dec.{ltb, eqb}
+use lib.ListN.{length, getD, drop}
+use Rattle.bayer.specs.declared.colour.Colour.{Colour}
+use Rattle.bayer.specs.declared.colour.Colour.the-variants.{Red, Green, Blue}
+use Rattle.bayer.specs.declared.frame.Frame.{Frame}
+use Rattle.bayer.specs.Condition.{frameCases}
+use Rattle.bayer.specs.Refusal.{_when_, readingOutOfRange, malformedFile, firstOf}
+use Rattle.gbtf.specs.Weights.{scale, evenWeights}
+use Rattle.demosaic.specs.Sample.{sample}
+use Rattle.green_rows.specs.Table.{table, joined}
+use Rattle.strip.specs.Strip.{anyAbove}
+use Rattle.frame_file.specs.Text.{letter, planeLine, refusalLine}
+
+-- a number of n bytes from byte `at` on, big-endian
+unfoldable pub bigEndian : (bytes : List ℕ) (at n : ℕ) → ℕ
+bigEndian bytes at zero = 0
+bigEndian bytes at (suc n) = bigEndian bytes at n * 256 + getD bytes (at + n) 0
+
+-- a version byte; a four-byte length of all that follows it; W and H, two bytes each; one layout byte; W × H readings, two bytes each
+abbrev pub version : (bytes : List ℕ) → ℕ
+version bytes = getD bytes 0 0
+
+abbrev pub restLength : (bytes : List ℕ) → ℕ
+restLength bytes = bigEndian bytes 1 4
+
+abbrev pub frameOf : (bytes : List ℕ) → Frame
+frameOf bytes = record { width = bigEndian bytes 5 2; height = bigEndian bytes 7 2; layout = getD bytes 9 0 }
+
+unfoldable pub readings : (bytes : List ℕ) → List ℕ
+readings bytes = table (λ k. bigEndian bytes (10 + 2 * k) 2) (frameOf bytes .width * frameOf bytes .height)
+
+-- 8: over 8202 bytes, under 10, version not 1, length not that of the rest, or not 5 + 2 × W × H
+unfoldable pub malformed : (bytes : List ℕ) → Bool
+malformed bytes =
+    ltb 8202 (length bytes)
+    || (ltb (length bytes) 10
+    || (not (eqb (version bytes) 1)
+    || (not (eqb (restLength bytes) (length (drop 5 bytes)))
+    || not (eqb (restLength bytes) (5 + 2 * frameOf bytes .width * frameOf bytes .height)))))
+
+-- the program's number: 8, then 1, 2, 6; 0 where none holds
+unfoldable pub fileNumber : (bytes : List ℕ) → ℕ
+fileNumber bytes = firstOf ((malformedFile when malformed bytes) ∷ (frameCases (frameOf bytes) ++ (readingOutOfRange when anyAbove 4095 (readings bytes)) ∷ []))
+
+-- plane k of a whole frame, row by row
+unfoldable pub framePlane : Frame → (readings : List ℕ) (k : Colour) → List ℕ
+framePlane f readings k = joined (λ i. table (λ j. sample scale evenWeights f 0 readings k i j) (f .width)) (f .height)
+
+-- three lines, R, G, B; a refusal prints one line
+unfoldable pub lines : (plane : Colour → List ℕ) → List ℕ
+lines plane = planeLine (letter Red) (plane Red) ++ (planeLine (letter Green) (plane Green) ++ planeLine (letter Blue) (plane Blue))
+
+unfoldable pub answered : (number : ℕ) (accepted : List ℕ) → List ℕ
+answered zero accepted = accepted
+answered (suc n) accepted = refusalLine (suc n)
+
+-- WHAT THE PROGRAM PRINTS, for any bytes
+unfoldable pub output : (bytes : List ℕ) → List ℕ
+output bytes = answered (fileNumber bytes) (lines (framePlane (frameOf bytes) (readings bytes)))

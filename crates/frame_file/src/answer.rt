@@ -1,0 +1,88 @@
+ghost use mathlib.Core.Path.{_≡_};
+ghost use mathlib.Core.Bool.{false};
+ghost use Prim.Native.Nat.{_*_, _≤_};
+ghost use lib.ListN.{length};
+ghost use Rattle.bayer.specs.declared.colour.Colour.the-variants.{Red, Green, Blue};
+ghost use Rattle.strip.specs.Strip.{three};
+ghost use Rattle.frame_file.specs.Text.{Printed};
+ghost use Rattle.frame_file.specs.FrameFile.{frameOf, malformed, lines, output};
+use crate::file::frame_of;
+use crate::file::is_malformed;
+use crate::file::read_readings;
+use crate::text::put_plane_line;
+use crate::text::put_refusal_line;
+use bayer::frame::Frame;
+use bayer::refusal::MALFORMED_FILE;
+use strip::strip::strip;
+
+fn put_lines(red: &[u16], green: &[u16], blue: &[u16], out: &mut [u8]) -> usize
+    requires { ⌜ (length (now red) ≤ 4096) × (length (now green) ≤ 4096) × (length (now blue) ≤ 4096) × (105 ≤ length (now out)) ⌝ }
+    ensures { λ r. ⌜ Printed (lines (three (now (red .entry)) (now (green .entry)) (now (blue .entry)))) 0 (now (out .entry)) (now (out .exit)) r × (r ≤ 105) ⌝ }
+{
+    let a = put_plane_line(b'R', red, out, 0);
+    let b = put_plane_line(b'G', green, out, a);
+    put_plane_line(b'B', blue, out, b)
+}
+
+// For a file that is not malformed. The mosaic and the planes are room for the frame's samples.
+fn frame_answer(
+    frame: Frame,
+    bytes: &[u8],
+    mosaic: &mut [u16],
+    red: &mut [u16],
+    green: &mut [u16],
+    blue: &mut [u16],
+    out: &mut [u8],
+) -> usize
+    requires { ⌜ (malformed (now bytes) ≡ false) × (frame ≡ frameOf (now bytes)) × (105 ≤ length (now out)) ⌝ }
+    requires { ⌜ (length (now mosaic) ≡ frame .width * frame .height) × (length (now red) ≡ frame .width * frame .height) × (length (now green) ≡ frame .width * frame .height) × (length (now blue) ≡ frame .width * frame .height) ⌝ }
+    ensures { λ r. ⌜ Printed (output (now (bytes .entry))) 0 (now (out .entry)) (now (out .exit)) r × (r ≤ 105) ⌝ }
+{
+    read_readings(bytes, mosaic);
+    let number = strip(frame, 0, frame.height, mosaic, red, green, blue);
+    if number != 0 {
+        return put_refusal_line(number, out);
+    }
+    put_lines(red, green, blue, out)
+}
+
+// The same, in as much of the room as the frame needs.
+fn file_answer(
+    bytes: &[u8],
+    mosaic: &mut [u16],
+    red: &mut [u16],
+    green: &mut [u16],
+    blue: &mut [u16],
+    out: &mut [u8],
+) -> usize
+    requires { ⌜ (malformed (now bytes) ≡ false) × (105 ≤ length (now out)) ⌝ }
+    requires { ⌜ (length (now mosaic) ≡ 4096) × (length (now red) ≡ 4096) × (length (now green) ≡ 4096) × (length (now blue) ≡ 4096) ⌝ }
+    ensures { λ r. ⌜ Printed (output (now (bytes .entry))) 0 (now (out .entry)) (now (out .exit)) r × (r ≤ 105) ⌝ }
+{
+    let frame = frame_of(bytes);
+    let size = frame.width * frame.height;
+    frame_answer(
+        frame,
+        bytes,
+        &mut mosaic[0..size],
+        &mut red[0..size],
+        &mut green[0..size],
+        &mut blue[0..size],
+        out,
+    )
+}
+
+// Puts what the program prints for these bytes at the start of `out`, and answers how many bytes that is.
+pub fn answer(bytes: &[u8], out: &mut [u8]) -> usize
+    requires { ⌜ 105 ≤ length (now out) ⌝ }
+    ensures { λ r. ⌜ Printed (output (now (bytes .entry))) 0 (now (out .entry)) (now (out .exit)) r × (r ≤ 105) ⌝ }
+{
+    if is_malformed(bytes) {
+        return put_refusal_line(MALFORMED_FILE, out);
+    }
+    let mut mosaic = [0u16; 4096];
+    let mut red = [0u16; 4096];
+    let mut green = [0u16; 4096];
+    let mut blue = [0u16; 4096];
+    file_answer(bytes, &mut mosaic, &mut red, &mut green, &mut blue, out)
+}

@@ -1,0 +1,87 @@
+/* rokzimp.h - red, green and blue planes from a Bayer mosaic: strip calls, and views of the planes.
+ *
+ * Each function below is proved to keep what is said of it, for every value of its arguments (crates/capi/src/lib.rt has the
+ * contracts). The proof relies on the caller for this:
+ *
+ *   - A pointer and the count after it are one run of that many 16-bit samples, which the call may read and, where the pointer
+ *     is not to const, write. With a count of 0 the pointer is not used, and must still not be NULL.
+ *   - A run that is written (red, green, blue of a strip) overlaps no other run of the same call. Runs that are only read may
+ *     overlap each other.
+ *   - No other thread writes a run of the call while it runs, nor reads one that it writes.
+ *
+ * The library keeps no memory between calls, takes no lock and no heap, and prints nothing. Calls in several threads are
+ * independent; strips of one frame may run at the same time, each into its own rows. A call of rokzimp_strip takes about
+ * 450 KB of stack, whatever the size of the frame: a thread that calls it needs a stack of 512 KB at the least. The others take
+ * next to none.
+ *
+ * A frame has `width` columns and `height` rows, each 8 to 4096. Rows and columns count from 0. Readings are 0 to 4095. The
+ * layout gives the colours of an even and of an odd row: 0 = RG GB, 1 = GR BG, 2 = GB RG, 3 = BG GR. It is a byte here: C
+ * cuts a wider number to its low byte without a word, so test a wider one before the call.
+ * Samples are in sixteenths of a reading, 0 to 65520. Mosaics and planes are stored row by row, without gaps.
+ *
+ * A number that a call returns is 0, or one of the refusals. Of several that hold, the one that is tested first is returned.
+ * A refused call changes no sample. */
+#ifndef ROKZIMP_H
+#define ROKZIMP_H
+
+#include <stddef.h>
+#include <stdint.h>
+
+#ifdef __cplusplus
+extern "C" {
+#endif
+
+enum {
+    ROKZIMP_OK = 0,
+    ROKZIMP_OFF_SIZE = 1,       /* "off size": width or height outside 8 to 4096 */
+    ROKZIMP_UNKNOWN_LAYOUT = 2, /* "unknown layout": layout above 3 */
+    ROKZIMP_OFF_THE_FRAME = 3,  /* "off the frame": rows is 0, or first_row + rows, not wrapped, is above height */
+    ROKZIMP_SHORT_HALO = 4,     /* "short halo": the piece of the mosaic has not the exact length */
+    ROKZIMP_PLANE_MISFIT = 5,   /* "plane misfit": one of the planes is not rows * width long */
+    ROKZIMP_OVER_RANGE = 6,     /* "over range": some reading of the piece is above 4095 */
+    ROKZIMP_NO_SUCH_ROW = 7     /* "no such row": a plane is shorter than (row + 1) * width, not wrapped; or row >= height */
+};
+
+/* The rows of the mosaic that a strip of `rows` rows from `first_row` on is lent: rokzimp_piece_rows rows from row
+ * rokzimp_piece_start on. That is from max(0, first_row - 7) to min(height, first_row + rows + 7) - 1, nothing wrapped; no rows
+ * where that is none. */
+size_t rokzimp_piece_start(size_t first_row);
+size_t rokzimp_piece_rows(size_t height, size_t first_row, size_t rows);
+
+/* A strip: fills rows first_row to first_row + rows - 1 of the three planes. `piece` is the rows of the mosaic named above, all
+ * columns; its count and those of the planes are of samples. Tests 1 to 6, in that order. Returns 0 and every sample of the
+ * three planes is written; or the refusal, and none is. The piece is only read. */
+uint32_t rokzimp_strip(size_t width, size_t height, uint8_t layout, size_t first_row, size_t rows,
+                       const uint16_t *piece, size_t piece_count,
+                       uint16_t *red, size_t red_count,
+                       uint16_t *green, size_t green_count,
+                       uint16_t *blue, size_t blue_count);
+
+/* The number that rokzimp_strip returns for such a call, and nothing else done. It reads the whole piece. */
+uint32_t rokzimp_strip_check(size_t width, size_t height, uint8_t layout, size_t first_row, size_t rows,
+                             const uint16_t *piece, size_t piece_count,
+                             size_t red_count, size_t green_count, size_t blue_count);
+
+/* A row view: row `row` of a plane, as the part of it that starts at sample rokzimp_row_view_start and is
+ * rokzimp_row_view_length long. The check returns the number: it tests 1 (on the width), then 7. A refused view starts at 0 and
+ * is 0 long; one that is not is width long. These read and write no sample. */
+uint32_t rokzimp_row_view_check(const uint16_t *plane, size_t count, size_t width, size_t row);
+size_t rokzimp_row_view_start(const uint16_t *plane, size_t count, size_t width, size_t row);
+size_t rokzimp_row_view_length(const uint16_t *plane, size_t count, size_t width, size_t row);
+
+/* A partner view: row `row` of the red or of the blue plane, whichever shares that sensor row with green. Both planes start at
+ * row 0 of the frame. rokzimp_partner_view_plane says which: 0 for red, 2 for blue (0 for a layout above 3). The others
+ * are as for a row view; the check tests 1, 2, then 7, in both planes and against the height. */
+uint32_t rokzimp_partner_view_check(const uint16_t *red, size_t red_count, const uint16_t *blue, size_t blue_count,
+                                    size_t width, size_t height, uint8_t layout, size_t row);
+uint32_t rokzimp_partner_view_plane(uint8_t layout, size_t row);
+size_t rokzimp_partner_view_start(const uint16_t *red, size_t red_count, const uint16_t *blue, size_t blue_count,
+                                  size_t width, size_t height, uint8_t layout, size_t row);
+size_t rokzimp_partner_view_length(const uint16_t *red, size_t red_count, const uint16_t *blue, size_t blue_count,
+                                   size_t width, size_t height, uint8_t layout, size_t row);
+
+#ifdef __cplusplus
+}
+#endif
+
+#endif

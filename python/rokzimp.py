@@ -1,0 +1,225 @@
+"""Red, green and blue planes from a Bayer mosaic: the library's calls for Python.
+
+Needs CPython and target/lib/librokzimp.so, which tools/build_library.sh builds; ROKZIMP_LIBRARY may name it elsewhere.
+
+Mosaics and planes are lent as they are, and nothing is copied: a numpy array of uint16, array('H'), or a bytes-like object
+(bytes, bytearray, mmap, memoryview) whose bytes are 16-bit samples in the machine's order. They may have several dimensions,
+stored row by row without gaps. What is written has to be writable; what is only read need not be.
+
+A refusal is raised as Refused, with document 01's number and word, and no lent sample is changed. A number too large for the
+library, or below 0, is refused as the largest number would be. Calls let other Python threads run; see include/rokzimp.h for what
+threads may do at the same time.
+"""
+import array
+import ctypes
+import operator
+import os
+import sys
+
+WORDS = {
+    1: ("off size", "width or height outside 8 to 4096"),
+    2: ("unknown layout", "layout above 3"),
+    3: ("off the frame", "no rows, or rows past the frame"),
+    4: ("short halo", "the piece of the mosaic has not the exact length"),
+    5: ("plane misfit", "one of the planes is not rows * width long"),
+    6: ("over range", "some reading of the piece is above 4095"),
+    7: ("no such row", "a plane lacks the row, or the row is past the frame"),
+    8: ("torn file", "the file is not what its first ten bytes say"),
+}
+
+
+class Refused(ValueError):
+    """A refusal: its number, document 01's word for it, and what the word means."""
+
+    def __init__(self, number):
+        self.number = number
+        self.word, self.meaning = WORDS[number]
+        super().__init__("refused %d, %s: %s" % (number, self.word, self.meaning))
+
+    def __reduce__(self):
+        return Refused, (self.number,)
+
+
+def _load():
+    here = os.path.dirname(os.path.abspath(__file__))
+    path = os.environ.get("ROKZIMP_LIBRARY") or os.path.join(here, "..", "target", "lib", "librokzimp.so")
+    if not os.path.exists(path):
+        raise OSError("%s is not there: build it by tools/build_library.sh" % os.path.normpath(path))
+    library = ctypes.CDLL(path)
+    size, word, byte = ctypes.c_size_t, ctypes.c_uint32, ctypes.c_uint8
+    samples = [ctypes.c_void_p, size]
+    frame = [size, size, byte]
+    for name, result, arguments in (
+        ("piece_start", size, [size]),
+        ("piece_rows", size, [size] * 3),
+        ("strip", word, frame + [size, size] + samples * 4),
+        ("strip_check", word, frame + [size, size] + samples + [size] * 3),
+        ("row_view_check", word, samples + [size, size]),
+        ("row_view_start", size, samples + [size, size]),
+        ("row_view_length", size, samples + [size, size]),
+        ("partner_view_check", word, samples * 2 + frame + [size]),
+        ("partner_view_plane", word, [byte, size]),
+        ("partner_view_start", size, samples * 2 + frame + [size]),
+        ("partner_view_length", size, samples * 2 + frame + [size]),
+    ):
+        function = getattr(library, "rokzimp_" + name)
+        function.restype, function.argtypes = result, arguments
+    return library
+
+
+_library = _load()
+_TOP = 2 ** (8 * ctypes.sizeof(ctypes.c_size_t)) - 1
+
+
+def _size(number):
+    number = operator.index(number)
+    return number if 0 <= number <= _TOP else _TOP
+
+
+def _exact(number):
+    number = operator.index(number)
+    if not 0 <= number <= _TOP:
+        raise ValueError("%d is no size" % number)
+    return number
+
+
+def _layout(number):
+    number = operator.index(number)
+    return number if 0 <= number <= 255 else 255
+
+
+class _PyBuffer(ctypes.Structure):
+    """CPython's Py_buffer."""
+
+    _fields_ = [("buf", ctypes.c_void_p), ("obj", ctypes.c_void_p), ("len", ctypes.c_ssize_t), ("itemsize", ctypes.c_ssize_t),
+                ("readonly", ctypes.c_int), ("ndim", ctypes.c_int), ("format", ctypes.c_char_p), ("shape", ctypes.c_void_p),
+                ("strides", ctypes.c_void_p), ("suboffsets", ctypes.c_void_p), ("internal", ctypes.c_void_p)]
+
+
+_get_buffer = ctypes.pythonapi.PyObject_GetBuffer
+_get_buffer.argtypes = [ctypes.py_object, ctypes.POINTER(_PyBuffer), ctypes.c_int]
+_get_buffer.restype = ctypes.c_int
+_release_buffer = ctypes.pythonapi.PyBuffer_Release
+_release_buffer.argtypes = [ctypes.POINTER(_PyBuffer)]
+_release_buffer.restype = None
+_WRITABLE = 1
+_nothing = (ctypes.c_uint16 * 1)()
+
+
+def _view(lent):
+    """A memoryview of what is lent, if that is 16-bit samples or bytes."""
+    view = memoryview(lent)
+    form = view.format.lstrip("@=<" if sys.byteorder == "little" else "@=>")
+    if form == "H" or form in ("B", "b", "c"):
+        if not view.c_contiguous:
+            raise BufferError("the samples have gaps between them: lend a contiguous buffer")
+        if view.nbytes % 2:
+            raise BufferError("an odd number of bytes is no run of 16-bit samples")
+        return view
+    raise TypeError("samples are unsigned 16-bit numbers in the machine's order, not of format %r" % view.format)
+
+
+class _Lent:
+    """The address and the count of what is lent, held in place from `with` to its end."""
+
+    def __init__(self, lent, write=False):
+        self.view, self.write = _view(lent), write
+
+    def __enter__(self):
+        self.buffer = _PyBuffer()
+        _get_buffer(self.view, self.buffer, _WRITABLE if self.write else 0)
+        self.count = self.buffer.len // 2
+        self.address = self.buffer.buf if self.count else ctypes.addressof(_nothing)
+        if self.address % 2:
+            _release_buffer(self.buffer)
+            raise BufferError("the samples start at an odd address")
+        return self
+
+    def __exit__(self, *why):
+        _release_buffer(self.buffer)
+
+
+def _apart(written, read):
+    """Refuses runs that overlap where one of them is written: the library's contract is for runs that do not."""
+    for k, p in enumerate(written):
+        for q in written[k + 1:] + read:
+            if p.count and q.count and p.address < q.address + 2 * q.count and q.address < p.address + 2 * p.count:
+                raise ValueError("a plane overlaps another buffer of the call")
+
+
+def _raise(number):
+    if number:
+        raise Refused(number)
+
+
+def piece_start(first_row):
+    """The first row of the mosaic that a strip from first_row on is lent."""
+    return _library.rokzimp_piece_start(_exact(first_row))
+
+
+def piece_rows(height, first_row, rows):
+    """How many rows of the mosaic it is lent."""
+    return _library.rokzimp_piece_rows(_exact(height), _exact(first_row), _exact(rows))
+
+
+def strip(width, height, layout, first_row, rows, piece, red, green, blue):
+    """Fills rows first_row to first_row + rows - 1 of three planes of rows * width samples, from the rows of the mosaic that
+    piece_start and piece_rows name."""
+    with _Lent(piece) as p, _Lent(red, True) as r, _Lent(green, True) as g, _Lent(blue, True) as b:
+        _apart([r, g, b], [p])
+        _raise(_library.rokzimp_strip(_size(width), _size(height), _layout(layout), _size(first_row), _size(rows), p.address, p.count,
+                                      r.address, r.count, g.address, g.count, b.address, b.count))
+
+
+def whole_frame(width, height, layout, mosaic, red=None, green=None, blue=None, strip_height=64):
+    """Fills three planes of height * width samples from the whole mosaic, in strips of strip_height rows (the last may be lower).
+    Planes that are not lent are made, as array('H'). Returns the three. Everything is tested before the first strip is filled: a
+    refusal is that of one strip of all rows."""
+    width, height, layout, strip_height = _size(width), _size(height), _layout(layout), operator.index(strip_height)
+    if strip_height < 1:
+        raise ValueError("strip_height is below 1")
+    with _Lent(mosaic) as m:
+        made = width * height if width <= 4096 and height <= 4096 else 0
+        planes = [array.array("H", bytes(2 * made)) if plane is None else plane for plane in (red, green, blue)]
+        with _Lent(planes[0], True) as r, _Lent(planes[1], True) as g, _Lent(planes[2], True) as b:
+            _apart([r, g, b], [m])
+            _raise(_library.rokzimp_strip_check(width, height, layout, 0, height, m.address, m.count, r.count, g.count, b.count))
+            for first in range(0, height, strip_height):
+                rows = min(strip_height, height - first)
+                start, at = piece_start(first), 2 * first * width
+                _raise(_library.rokzimp_strip(width, height, layout, first, rows, m.address + 2 * start * width,
+                                              piece_rows(height, first, rows) * width, r.address + at, rows * width,
+                                              g.address + at, rows * width, b.address + at, rows * width))
+    return tuple(planes)
+
+
+def _samples(lent):
+    """A memoryview of format 'H' and one dimension, of the same memory."""
+    view = _view(lent)
+    if not view.nbytes:
+        return memoryview(array.array("H"))
+    try:
+        return view.cast("B").cast("H")
+    except ValueError:
+        raise TypeError("no view of a buffer of format %r: lend array('H'), numpy's uint16 or bytes" % view.format) from None
+
+
+def row_view(plane, width, row):
+    """Row `row` of a plane, as a memoryview of the part of it, width samples long."""
+    samples, width, row = _samples(plane), _size(width), _size(row)
+    with _Lent(samples) as p:
+        _raise(_library.rokzimp_row_view_check(p.address, p.count, width, row))
+        start = _library.rokzimp_row_view_start(p.address, p.count, width, row)
+        return samples[start:start + _library.rokzimp_row_view_length(p.address, p.count, width, row)]
+
+
+def partner_view(red, blue, width, height, layout, row):
+    """Row `row` of the red or of the blue plane, whichever shares that sensor row with green, as a memoryview of the part of it.
+    Both planes start at row 0 of the frame."""
+    both, frame = (_samples(red), _samples(blue)), (_size(width), _size(height), _layout(layout), _size(row))
+    with _Lent(both[0]) as r, _Lent(both[1]) as b:
+        arguments = (r.address, r.count, b.address, b.count) + frame
+        _raise(_library.rokzimp_partner_view_check(*arguments))
+        start = _library.rokzimp_partner_view_start(*arguments)
+        samples = both[0] if _library.rokzimp_partner_view_plane(frame[2], frame[3]) == 0 else both[1]
+        return samples[start:start + _library.rokzimp_partner_view_length(*arguments)]

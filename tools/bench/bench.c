@@ -1,0 +1,126 @@
+/* Megapixels per second of one thread on a 4096 by 4096 frame: the proved library beside reference/demosaic.c,
+ * in strips of 1, 16, 64 and 4096 rows of random readings, and whole for other readings; and the memory that each uses beside the
+ * mosaic and the planes.
+ *
+ *   bench [seconds]    time spent at the least on each figure (default 2)
+ *
+ * Times are processor time of this thread, so a shared machine disturbs them less. The two are timed in turn, and the best
+ * turn of each counts. Their planes are compared after each figure. */
+#define _GNU_SOURCE
+#include <pthread.h>
+#include <stdint.h>
+#include <stdio.h>
+#include <stdlib.h>
+#include <string.h>
+#include <sys/mman.h>
+#include <sys/resource.h>
+#include <time.h>
+#include "rokzimp.h"
+
+int demosaic_strip(uint64_t W, uint64_t H, uint64_t layout, uint64_t a, uint64_t n, const uint16_t *piece, uint64_t len,
+                   uint16_t *R, uint64_t rlen, uint16_t *G, uint64_t glen, uint16_t *B, uint64_t blen);
+
+/* the reference is compiled to take its memory here, so that it can be counted */
+static size_t heap, heap_most;
+void *counted_calloc(size_t n, size_t size) {
+    size_t *p = calloc(1, n * size + 64);
+    if (!p) abort();
+    p[0] = n * size;
+    heap += n * size;
+    if (heap > heap_most) heap_most = heap;
+    return (char *)p + 64;
+}
+void counted_free(void *q) {
+    size_t *p = (size_t *)((char *)q - 64);
+    heap -= p[0];
+    free(p);
+}
+
+enum { SIZE = 4096 };
+static uint16_t *mosaic, *ours[3], *theirs[3];
+
+static double now(void) {
+    struct timespec t;
+    clock_gettime(CLOCK_THREAD_CPUTIME_ID, &t);
+    return (double)t.tv_sec + 1e-9 * (double)t.tv_nsec;
+}
+
+static const char *const contents[] = {"random", "0 or 4095", "smooth"};
+static void fill(int kind) {
+    uint32_t s = 12345;
+    for (size_t i = 0; i < SIZE; i++)
+        for (size_t j = 0; j < SIZE; j++) {
+            s = s * 1664525u + 1013904223u;
+            mosaic[i * SIZE + j] = (uint16_t)(kind == 0 ? s >> 20 : kind == 1 ? (s >> 31) * 4095 : (i / 3 + j / 2 + (s >> 29)) % 4096);
+        }
+}
+
+/* the whole frame in strips of so many rows */
+static void frame(int library, size_t rows, uint16_t **p) {
+    for (size_t a = 0; a < SIZE; a += rows) {
+        size_t n = a + rows <= SIZE ? rows : SIZE - a, len = n * SIZE, at = a * SIZE;
+        const uint16_t *piece = mosaic + rokzimp_piece_start(a) * SIZE;
+        size_t piece_len = rokzimp_piece_rows(SIZE, a, n) * SIZE;
+        uint32_t r = library ? rokzimp_strip(SIZE, SIZE, 0, a, n, piece, piece_len, p[0] + at, len, p[1] + at, len, p[2] + at, len)
+                             : (uint32_t)demosaic_strip(SIZE, SIZE, 0, a, n, piece, piece_len, p[0] + at, len, p[1] + at, len, p[2] + at, len);
+        if (r) { printf("refused %u\n", r); exit(1); }
+    }
+}
+
+/* the stack that one call takes: run on a stack of a known pattern, and see how deep it was overwritten */
+static void *one_call(void *unused) {
+    frame(1, SIZE, ours);
+    return unused;
+}
+
+static size_t stack_used(void) {
+    size_t size = 4 << 20;
+    unsigned char *s = mmap(0, size, PROT_READ | PROT_WRITE, MAP_PRIVATE | MAP_ANONYMOUS | MAP_STACK, -1, 0);
+    if (s == MAP_FAILED) abort();
+    memset(s, 0xa5, size);
+    pthread_attr_t attr;
+    pthread_attr_init(&attr);
+    pthread_attr_setstack(&attr, s, size);
+    pthread_t t;
+    if (pthread_create(&t, &attr, one_call, 0)) abort();
+    pthread_join(t, 0);
+    size_t k = 0;
+    while (k < size && s[k] == 0xa5) k++;
+    munmap(s, size);
+    return size - k;
+}
+
+int main(int argc, char **argv) {
+    double seconds = argc > 1 ? atof(argv[1]) : 2;
+    size_t samples = (size_t)SIZE * SIZE;
+    mosaic = malloc(samples * 2);
+    for (int c = 0; c < 3; c++) { ours[c] = malloc(samples * 2); theirs[c] = malloc(samples * 2); memset(ours[c], 1, samples * 2); memset(theirs[c], 2, samples * 2); }
+    struct { int contents; size_t rows; } const figures[] = {{0, 1}, {0, 16}, {0, 64}, {0, 4096}, {1, 4096}, {2, 4096}};
+    int bad = 0;
+    printf("4096 by 4096, one thread; megapixels per second\n");
+    printf("%-16s %8s %10s %12s %8s\n", "readings", "rows", "library", "demosaic.c", "ratio");
+    for (int k = 0; k < 6; k++) {
+        fill(figures[k].contents);
+        double best[2] = {1e9, 1e9}, spent = 0;
+        for (int turn = 0; turn < 2 || spent < 2 * seconds; turn++)
+            for (int who = 0; who < 2; who++) {
+                double t = now();
+                frame(who == 0, figures[k].rows, who == 0 ? ours : theirs);
+                t = now() - t;
+                spent += t;
+                if (t < best[who]) best[who] = t;
+            }
+        int differ = 0;
+        for (int c = 0; c < 3; c++) differ |= memcmp(ours[c], theirs[c], samples * 2) != 0;
+        bad |= differ;
+        printf("%-16s %8zu %10.1f %12.1f %8.2f%s\n", contents[figures[k].contents], figures[k].rows, (double)samples / best[0] * 1e-6,
+               (double)samples / best[1] * 1e-6, best[1] / best[0], differ ? "  PLANES DIFFER" : "");
+        fflush(stdout);
+    }
+    printf("memory beside the mosaic and the planes: library %zu bytes of stack (the thread's own few thousand included), no heap; "
+           "demosaic.c %zu bytes of heap\n", stack_used(), heap_most);
+    struct rusage u;
+    getrusage(RUSAGE_SELF, &u);
+    printf("largest resident set of this program: %ld KiB, of which mosaic and planes %zu KiB\n", u.ru_maxrss, 7 * samples * 2 / 1024);
+    return bad;
+}

@@ -1,0 +1,73 @@
+#!/usr/bin/env python3
+"""Turns a frame file into its three planes and a picture.
+
+    tools/frame_to_png.py FRAME OUT [ROWS]
+
+FRAME is a file of document 01's format, of any size that the format allows, '-' for standard input. Writes OUT.red, OUT.green and
+OUT.blue, 16-bit samples, big-endian, row by row; and OUT.png, 8 bits for each colour, the samples' upper bytes. The frame is worked
+out in strips of ROWS rows (default 64). A refusal prints one line, as the small program does, and nothing is written."""
+import array
+import os
+import struct
+import sys
+import zlib
+
+sys.path.insert(0, os.path.join(os.path.dirname(os.path.abspath(__file__)), "..", "python"))
+import rokzimp
+
+
+def read_frame(data):
+    """Width, height, layout and readings of a frame file. Refusal 8 as the small program has it, but for its limit of 8202 bytes."""
+    if len(data) < 10:
+        raise rokzimp.Refused(8)
+    version, length, width, height, layout = struct.unpack(">BIHHB", data[:10])
+    if version != 1 or length != len(data) - 5 or length != 5 + 2 * width * height:
+        raise rokzimp.Refused(8)
+    readings = array.array("H", data[10:])
+    if sys.byteorder == "little":
+        readings.byteswap()
+    return width, height, layout, readings
+
+
+def big_endian(plane):
+    if sys.byteorder == "little":
+        plane = plane[:]
+        plane.byteswap()
+    return plane.tobytes()
+
+
+def png(width, height, red, green, blue):
+    """A PNG of three planes of bytes."""
+    pixels = bytearray(3 * width * height)
+    pixels[0::3], pixels[1::3], pixels[2::3] = red, green, blue
+    lines = b"".join(b"\0" + pixels[i:i + 3 * width] for i in range(0, len(pixels), 3 * width))
+
+    def chunk(name, body):
+        return struct.pack(">I", len(body)) + name + body + struct.pack(">I", zlib.crc32(name + body))
+
+    return (b"\x89PNG\r\n\x1a\n" + chunk(b"IHDR", struct.pack(">IIBBBBB", width, height, 8, 2, 0, 0, 0))
+            + chunk(b"IDAT", zlib.compress(lines, 6)) + chunk(b"IEND", b""))
+
+
+def main(words):
+    if len(words) not in (2, 3):
+        print(__doc__, file=sys.stderr)
+        return 2
+    data = sys.stdin.buffer.read() if words[0] == "-" else open(words[0], "rb").read()
+    try:
+        width, height, layout, readings = read_frame(data)
+        planes = rokzimp.whole_frame(width, height, layout, readings, strip_height=int(words[2]) if len(words) == 3 else 64)
+    except rokzimp.Refused as refused:
+        print("refused %d" % refused.number)
+        return 1
+    samples = [big_endian(plane) for plane in planes]
+    for name, body in zip(("red", "green", "blue"), samples):
+        with open(words[1] + "." + name, "wb") as out:
+            out.write(body)
+    with open(words[1] + ".png", "wb") as out:
+        out.write(png(width, height, *(body[0::2] for body in samples)))
+    return 0
+
+
+if __name__ == "__main__":
+    sys.exit(main(sys.argv[1:]))

@@ -1,0 +1,387 @@
+#!/usr/bin/env python3
+"""Writes crates/cases/stdin and crates/cases/stdout: cases, and what the program `cases` must answer.
+
+    python3 tools/make_cases.py SEED [DIRECTORY]       the committed files: SEED 1
+
+The answers come from reference/ and from nothing else. Each case is a line of stdin and a line of stdout.
+A line is a letter and then whole numbers, single spaces between them; a '#' line is a comment and has no answer.
+
+S W H layout a n  P R G B  width seed base down across oddrow oddcol checker from step kind amount shape at value at value first
+    A strip call. P, R, G, B are the lengths of the piece and of the planes that are lent; the rest is the recipe of their contents.
+    Answer: the number of strip, that of strip_check, and for each plane sum, checksum, first and last sample.
+V W row length
+    A row view; sample t of the plane is t. Answer: number, start, length and checksum of what is shown.
+Q W H layout row red blue
+    A partner view of planes of these lengths; sample t of red is t, of blue 32768 + t.
+    Answer: number, 0 for red or 2 for blue, start, length and checksum of what is shown; 0 0 0 0 if nothing is.
+F c s s s s A A A A
+    Green of reading c by fusion of east, west, north, south: direction sums, and five-sums plus 524288. Answer: green in units.
+
+Recipe. A number named in it counts modulo 65536, but for width, seed and at. The generator steps x to 1664525 x + 1013904223 modulo 2^32.
+Reading t of the piece is at row i = t / width + first and column j = t % width, of the frame; x is the generator after t + 1 steps from seed. With
+    noise = kind 0: (x / 2^20) amount / 4096;  kind 1: (x / 2^31) amount;  else: (x / 2^20 % 4) amount, only where x < 2^28
+    v = base + down i + across j + oddrow (i % 2) + oddcol (j % 2) + checker ((i + j) % 2) + (step, only where i + j >= from) + noise
+the reading is, by shape, 0: min(v, 4095); 1: v % 4096; else: 4095 - min(v, 4095). Then the readings at the two `at` (if there are such) are set.
+The planes hold, before the call, x / 2^16 with the generator from seed + 1 (red), seed + 2 (green), seed + 3 (blue).
+Checksum: from 0, for each sample y in order, h becomes 1664525 h + y + 1 modulo 2^32. 1664525 is odd, so one wrong sample always changes it.
+"""
+import os
+import random
+import sys
+
+HERE = os.path.dirname(os.path.abspath(__file__))
+ROOT = os.path.dirname(HERE)
+sys.dont_write_bytecode = True
+sys.path.insert(0, os.path.join(ROOT, 'reference'))
+import reference as r  # noqa: E402
+import vectors  # noqa: E402
+
+RULES = r.Rules('base')
+M16, M32 = 2 ** 16, 2 ** 32
+NONE = 2 ** 63                       # a position that no piece has
+BIG = [2 ** 12 + 1, 2 ** 16, 2 ** 32 - 1, 2 ** 32, 2 ** 63, 2 ** 64 - 8, 2 ** 64 - 2, 2 ** 64 - 1]
+MOST_PIECE, MOST_PLANE = 4096 * 22, 4096 * 8 + 8
+
+
+def step(x):
+    return (1664525 * x + 1013904223) % M32
+
+
+# ------------------------------------------------------------ both sides expand a recipe
+class Recipe:
+    FIELDS = 'base down across oddrow oddcol checker from_ step kind amount shape'.split()
+
+    def __init__(self, **given):
+        self.v = {f: 0 for f in self.FIELDS}
+        self.v.update(given)
+
+    def numbers(self):
+        return [self.v[f] for f in self.FIELDS]
+
+
+def reading(p, x, i, j):
+    base, down, across, oddrow, oddcol, checker, from_, stp, kind, amount, shape = [n % M16 for n in p]
+    i, j = i % M16, j % M16
+    noise = (x >> 20) * amount // 4096 if kind == 0 else (x >> 31) * amount if kind == 1 else \
+        (x >> 20) % 4 * amount if x < 2 ** 28 else 0
+    v = base + down * i + across * j + oddrow * (i % 2) + oddcol * (j % 2) + checker * ((i + j) % 2)
+    v += (stp if i + j >= from_ else 0) + noise
+    return min(v, 4095) if shape == 0 else v % 4096 if shape == 1 else 4095 - min(v, 4095)
+
+
+def expand_piece(length, width, seed, p, puts, first):
+    out, x = [], seed % M32
+    for t in range(length):
+        x = step(x)
+        out.append(reading(p, x, t // width + first, t % width))
+    for at, value in puts:
+        if at < length:
+            out[at] = value % M16
+    return out
+
+
+def expand_plane(length, seed):
+    out, x = [], seed % M32
+    for _ in range(length):
+        x = step(x)
+        out.append(x >> 16)
+    return out
+
+
+def checksum(samples):
+    h = 0
+    for y in samples:
+        h = (1664525 * h + y + 1) % M32
+    return h
+
+
+# ------------------------------------------------------------ answers, by the reference
+def answer_S(v):
+    W, H, layout, a, n, P, R, G, B, width, seed = v[:11]
+    p, puts, first = v[11:22], [(v[22], v[23]), (v[24], v[25])], v[26]
+    piece = expand_piece(P, max(width, 1), seed, p, puts, first)
+    planes = [expand_plane(l, seed + k) for k, l in ((1, R), (2, G), (3, B))]
+    f = r.Frame(W, H, layout)
+    num = r.strip_number(RULES, f, a, n, piece, planes)
+    got = r.strip_call(RULES, f, a, n, piece, planes)
+    out = [got, num]
+    for q in planes:
+        out += [sum(q), checksum(q), q[0] if q else 0, q[-1] if q else 0]
+    return out
+
+
+def answer_V(v):
+    W, row, length = v
+    num = r.row_view_check(RULES, length, W, row)
+    start, shown = r.row_view(RULES, length, W, row)
+    return [num, start, shown, checksum(range(start, start + shown))]
+
+
+def answer_Q(v):
+    W, H, layout, row, red, blue = v
+    num = r.partner_view_check(RULES, red, blue, W, H, layout, row)
+    which, start, shown = r.partner_view(RULES, red, blue, W, H, layout, row)
+    at = start + (32768 if which == r.B else 0)
+    return [num, which or 0, start, shown, checksum(range(at, at + shown))]
+
+
+def answer_F(v):
+    ts, As = [r.guard(s) for s in v[1:5]], [A - 524288 for A in v[5:9]]
+    return [r.stop(16 * v[0] + r.fusion(r.shares(ts, RULES.scale), As, 5))]
+
+
+ANSWER = {'S': answer_S, 'V': answer_V, 'Q': answer_Q, 'F': answer_F}
+
+
+# ------------------------------------------------------------ cases
+class Maker:
+    def __init__(self, seed):
+        self.g = random.Random('cases/%d' % seed)
+        self.seed = seed
+        self.lines, self.answers, self.count = [], [], {}
+
+    def add(self, kind, *numbers):
+        v = list(numbers)
+        assert all(0 <= n < 2 ** 64 for n in v), v
+        ans = ANSWER[kind](v)
+        self.lines.append(' '.join(map(str, [kind] + v)))
+        self.answers.append(' '.join(map(str, ans)))
+        key = kind + str(ans[0]) if kind != 'F' else 'F'
+        self.count[key] = self.count.get(key, 0) + 1
+        return ans
+
+    def note(self, text):
+        self.lines.append('# ' + text)
+
+    # -------------------------------------------------------- contents
+    def recipe(self, W, H):
+        g = self.g
+        k = g.randrange(16)
+        if k < 4: return Recipe(amount=4096)
+        if k == 4: return Recipe(kind=1, amount=4095)
+        if k == 5: return Recipe(base=g.choice((0, 1, 4095, g.randrange(4096))))
+        if k == 6: return Recipe(checker=4095, shape=g.choice((0, 2)))
+        if k == 7: return Recipe(**{g.choice(('oddrow', 'oddcol')): 4095, 'shape': g.choice((0, 2))})
+        if k == 8: return Recipe(down=g.randrange(120), across=g.randrange(120), base=g.randrange(300), shape=g.randrange(3))
+        if k == 9: return Recipe(down=g.randrange(4096), across=g.randrange(4096), base=g.randrange(4096), shape=1)
+        if k == 10: return Recipe(base=g.randrange(300, 3700), amount=g.choice((2, 6, 60, 300)))
+        if k == 11:
+            return Recipe(base=g.randrange(600), oddrow=g.randrange(900), oddcol=g.randrange(900), kind=2, amount=g.choice((0, 1, 2, 5)))
+        if k == 12:
+            return Recipe(kind=2, amount=g.choice((1, 30, 700)), shape=g.choice((0, 2)), **{g.choice(('oddrow', 'oddcol', 'checker')): 4095})
+        if k == 13: return Recipe(base=g.randrange(4096), from_=g.randrange(W + H), step=g.randrange(4096), shape=1)
+        if k == 14:
+            return Recipe(base=g.choice((0, 4095)), from_=g.randrange(W + H), step=4095, checker=g.randrange(4096), shape=1)
+        return Recipe(checker=g.randrange(4096), oddrow=g.randrange(4096), oddcol=g.randrange(4096), amount=g.randrange(50), shape=1)
+
+    def impulses(self, length):
+        g, out = self.g, []
+        for _ in range(2):
+            out.append((g.randrange(max(length, 1)), g.choice((0, 1, 2000, 4095))) if g.random() < .25 else (NONE, 0))
+        return out
+
+    # -------------------------------------------------------- a strip call
+    def strip(self, W, H, layout, a, n, recipe=None, puts=None, seed=None, P=None, planes=None, true=None):
+        """The lengths are the right ones of the call `true` (W, H, a, n), or of this one, unless they are given."""
+        w, h, b, m = true or (W, H, a, n)
+        lo, hi = r.strip_rows(h, b, m)
+        P = (hi - lo) * w if P is None else P
+        planes = [m * w] * 3 if planes is None else planes
+        assert P <= MOST_PIECE and max(planes) <= MOST_PLANE, (W, H, a, n, P, planes)
+        recipe = recipe or self.recipe(w, h)
+        puts = self.impulses(P) if puts is None else puts + [(NONE, 0)] * (2 - len(puts))
+        seed = r.jump(self.g.randrange(M32) if seed is None else seed, lo * w)
+        return self.add('S', W, H, layout, a, n, P, *planes, w, seed, *recipe.numbers(),
+                        *[n for put in puts for n in put], lo)
+
+    def cut(self, H):
+        g = self.g
+        k = g.randrange(7)
+        if k == 0: return 0, H
+        if k == 1: return H - 1, 1
+        if k == 2: return 0, 1
+        if k == 3: return g.randrange(H), 1
+        a = g.randrange(H)
+        return a, g.randrange(1, H - a + 1)
+
+    def size(self, top=40):
+        g = self.g
+        return g.choice((8, 9, g.randrange(8, 20), g.randrange(8, top + 1)))
+
+    def accepted(self, count):
+        self.note('strips of frames of 8 to 40 rows and columns, cut anywhere')
+        for k in range(count):
+            W, H = self.size(), self.size()
+            a, n = self.cut(H)
+            assert self.strip(W, H, k % 4, a, n)[0] == 0
+
+    def cuts(self):
+        self.note('one frame in every cut of 1 row and of several, and whole')
+        for W, H, layout in ((11, 19, 0), (8, 16, 1), (9, 23, 2), (12, 17, 3)):
+            seed, rec = self.g.randrange(M32), self.recipe(W, H)
+            for n in (1, self.g.randrange(2, 6), H):
+                for a in range(0, H, n):
+                    assert self.strip(W, H, layout, a, min(n, H - a), rec, [], seed)[0] == 0
+
+    def wide_and_tall(self):
+        g = self.g
+        self.note('wide and tall frames; sizes 8 and 4096')
+        for W, H, a, n in ((4096, 8, 0, 8), (4096, 8, 7, 1), (4096, 9, 3, 2), (4095, 22, 7, 2), (4096, 30, 11, 8), (4096, 4096, 2000, 1),
+                           (4096, 4096, 4095, 1), (4096, 4096, 0, 2), (1025, 13, 5, 4), (2047, 8, 2, 3),
+                           (8, 4096, 0, 4096), (8, 4096, 4095, 1), (8, 4096, 4000, 96), (9, 4096, 1234, 30), (8, 4095, 4090, 5), (33, 901, 450, 20)):
+            assert self.strip(W, H, g.randrange(4), a, n)[0] == 0
+
+    def figures(self):
+        self.note('sizes 7, 8, 4096, 4097; readings 4095 and 4096')
+        for W, H in ((7, 8), (8, 7), (4097, 8), (8, 4097), (7, 4097), (8, 8), (8, 4096), (4096, 8)):
+            for L in range(4):
+                inside = 8 <= W <= 4096 and 8 <= H <= 4096
+                a, n = (0, 1) if inside else (0, 2)
+                assert self.strip(W, H, L, a, n)[0] == (0 if inside else 1)
+        for v, num in ((4095, 0), (4096, 6), (65535, 6)):
+            for at in (0, 8 * 8 - 1, 8 * 4 + 3):
+                assert self.strip(8, 8, self.g.randrange(4), 0, 8, puts=[(at, v)])[0] == num
+        self.note('the three strips of the rule, and off by one row or one reading')
+        for a, n, rows in ((9, 2, 16), (0, 1, 8), (19, 1, 8)):
+            for W in (8, 13):
+                for d, num in ((0, 0), (W, 4), (-W, 4), (1, 4), (-1, 4)):
+                    assert self.strip(W, 20, self.g.randrange(4), a, n, P=rows * W + d)[0] == num
+        self.note('8 by 8, layout 0: red 400, green 200, blue 100; red 4095, others 0')
+        for recipe, planes in ((Recipe(base=400, oddrow=4096 - 150, oddcol=4096 - 150, checker=4096 - 50, shape=1), (6400, 3200, 1600)),
+                               (Recipe(oddrow=4095, oddcol=4095, shape=2), (65520, 0, 0))):
+            got = self.strip(8, 8, 0, 0, 8, recipe, [])
+            assert got[2::4] == [64 * p for p in planes] and got[4::4] == list(planes)
+
+    def over_range(self, count):
+        self.note('one reading above 4095, anywhere in the piece')
+        for _ in range(count):
+            W, H = self.size(24), self.size(30)
+            a, n = self.cut(H)
+            lo, hi = r.strip_rows(H, a, n)
+            P = (hi - lo) * W
+            at = self.g.choice((0, P - 1, self.g.randrange(P), self.g.randrange(P)))
+            assert self.strip(W, H, self.g.randrange(4), a, n, puts=[(at, self.g.choice((4096, 4096, 65535)))])[0] == 6
+
+    def lengths(self, count):
+        g = self.g
+        self.note('piece, or a plane, one too long or too short, or empty')
+        for k in range(count):
+            W, H = self.size(24), self.size(30)
+            a, n = self.cut(H)
+            lo, hi = r.strip_rows(H, a, n)
+            P = (hi - lo) * W
+            d = g.choice((1, -1))
+            if k % 4 == 0:
+                assert self.strip(W, H, g.randrange(4), a, n, P=g.choice((P + d, P + d * W, 0)))[0] == 4
+            else:
+                planes = [n * W] * 3
+                planes[k % 4 - 1] = g.choice((n * W + d, n * W + d, 0))
+                assert self.strip(W, H, g.randrange(4), a, n, planes=planes)[0] == 5
+
+    def names(self, count):
+        g = self.g
+        self.note('layouts 4 and 255, sizes off, rows off the frame, huge a and n')
+        for k in range(count):
+            W, H, L = self.size(20), self.size(20), g.randrange(4)
+            a, n = self.cut(H)
+            true = (W, H, a, n)
+            t = k % 6
+            if t == 0: L = g.choice((4, 5, 255))
+            if t == 1: W = g.choice([0, 1, 7, 4097] + BIG)
+            if t == 2: H = g.choice([0, 1, 7, 4097] + BIG)
+            if t == 3: n = g.choice([0, H - a + 1] + BIG)
+            if t == 4: a = g.choice([H - n + 1, H] + BIG)
+            if t == 5: a, n = g.choice(((2 ** 64 - 1, 1), (2 ** 64 - 1, 2), (2 ** 64 - n, n), (1, 2 ** 64 - 1), (a, 2 ** 64 - max(a, 1)),
+                                        (2 ** 63, 2 ** 63), (2 ** 64 - 1, 2 ** 64 - 1), (H, 0), (H + 1, 0)))
+            assert self.strip(W, H, L, a, n, true=true)[0] in (1, 2, 3)
+
+    def mixed(self, count):
+        g = self.g
+        self.note('several faults at once: the lowest number counts')
+        for _ in range(count):
+            W, H, L = self.size(20), self.size(20), g.randrange(4)
+            a, n = self.cut(H)
+            true = (W, H, a, n)
+            lo, hi = r.strip_rows(H, a, n)
+            P, planes, puts = (hi - lo) * W, [n * W] * 3, []
+            for t in g.sample(range(7), g.choice((2, 2, 3, 4))):
+                if t == 0: W = g.choice([0, 7, 4097] + BIG)
+                if t == 1: H = g.choice([0, 7, 4097] + BIG)
+                if t == 2: L = g.choice((4, 255))
+                if t == 3: n = g.choice([0] + BIG)
+                if t == 4: P += g.choice((1, -1))
+                if t == 5: planes[g.randrange(3)] += g.choice((1, -1))
+                if t == 6: puts = [(g.randrange(P), 4096)]
+            self.strip(W, H, L, a, n, puts=puts, P=P, planes=planes, true=true)
+
+    # -------------------------------------------------------- views
+    def row_views(self, count):
+        g = self.g
+        self.note('row views')
+        for W in (7, 8, 4096, 4097):
+            for row in (0, 1, 7):
+                for d in (0, -1, 1):
+                    self.add('V', W, row, min(max((row + 1) * W + d, 0), MOST_PLANE))
+        for _ in range(count):
+            W = g.choice((self.size(), self.size(), g.randrange(8, 4097), 4096, g.choice([0, 7, 4097] + BIG)))
+            row = g.choice((0, 1, g.randrange(20), g.randrange(20), 2 ** 64 // max(W, 1), 2 ** 64 // max(W, 1) - 1, g.choice(BIG))) % 2 ** 64
+            need = min((row + 1) * W, MOST_PLANE)
+            self.add('V', W, row, g.choice((need, need, max(0, need - 1), min(need + 1, MOST_PLANE), 0, g.randrange(MOST_PLANE))))
+
+    def partner_views(self, count):
+        g = self.g
+        self.note('partner views')
+        for L in (0, 1, 2, 3, 4, 255):
+            for row in (0, 1, 6, 7, 8):
+                self.add('Q', 8, 8, L, row, 80, 72)
+        for k in range(count):
+            W, H, L = self.size(), self.size(), k % 4
+            row = g.choice((0, H - 1, g.randrange(H)))
+            if k % 2:
+                t = g.randrange(5)
+                if t == 0: W = g.choice([0, 7, 4096, 4097] + BIG)
+                if t == 1: H = g.choice([0, 7, 4096, 4097] + BIG)
+                if t == 2: L = g.choice((4, 255))
+                if t > 2: row = g.choice([H, 2 ** 64 // W - 1, 2 ** 64 // W] + BIG)
+            need = min((row + 1) * W, 32768)
+            more = [g.choice((0, 0, 1, W % M16, -1 if k % 3 == 0 else 0)) for _ in range(2)]
+            self.add('Q', W, H, L, row, *[min(max(0, need + d), 32768) for d in more])
+
+    # -------------------------------------------------------- shares and fusion
+    def fusions(self, count):
+        g = self.g
+        self.note('shares and fusion; exact halves')
+        for A in (3, 2, -2, -3):
+            self.add('F', 2000, *[4] * 4, *[A + 524288] + [524288] * 3)
+        mk = vectors.Maker('base', self.seed)
+        for _ in range(count):
+            v = mk.F()[2:]
+            ss = [g.randrange(5) if t == 4 else t for t in v[:4]]
+            add = r.fusion(r.shares([r.guard(s) for s in ss], RULES.scale), v[4:], 5)
+            c = min(max((32760 - add) // 16, 0), 4095) if g.random() < .8 else g.choice((0, 4095, g.randrange(4096)))
+            self.add('F', c, *ss, *[A + 524288 for A in v[4:]])
+
+
+def main():
+    seed = int(sys.argv[1])
+    where = sys.argv[2] if len(sys.argv) > 2 else os.path.join(ROOT, 'crates', 'cases')
+    m = Maker(seed)
+    m.note('made by tools/make_cases.py %d, which says what each line means' % seed)
+    m.figures()
+    m.accepted(400)
+    m.cuts()
+    m.wide_and_tall()
+    m.over_range(60)
+    m.lengths(96)
+    m.names(120)
+    m.mixed(100)
+    m.row_views(200)
+    m.partner_views(240)
+    m.fusions(600)
+    for name, lines in (('stdin', m.lines), ('stdout', m.answers)):
+        with open(os.path.join(where, name), 'w') as out:
+            out.write('\n'.join(lines) + '\n')
+    print('%d cases' % len(m.answers), ' '.join('%s:%d' % kv for kv in sorted(m.count.items())))
+
+
+main()

@@ -1,0 +1,75 @@
+#!/usr/bin/env python3
+"""planes_cases.py: writes crates/planes_cases/stdin, frame files each behind a two-byte length,
+and crates/planes_cases/stdout, what reference/reference.py's program prints for each."""
+import os
+import random
+import sys
+
+HERE = os.path.dirname(os.path.abspath(__file__))
+sys.dont_write_bytecode = True
+sys.path.insert(0, os.path.join(HERE, '..', 'reference'))
+import reference
+
+CRATE = os.path.join(HERE, '..', 'crates', 'planes_cases')
+
+
+def frame_file(w, h, layout, readings, version=1, length=None):
+    body = w.to_bytes(2, 'big') + h.to_bytes(2, 'big') + bytes([layout]) + b''.join(x.to_bytes(2, 'big') for x in readings)
+    length = len(body) if length is None else length
+    return bytes([version]) + length.to_bytes(4, 'big') + body
+
+
+def cases():
+    rnd = random.Random(1)
+
+    def some(n, top=4095):
+        return [rnd.randint(0, top) for _ in range(n)]
+
+    flat = frame_file(8, 8, 0, [100] * 64)
+    # 01's example; accepted frames of each layout, odd and even sizes, extreme readings, and the largest files
+    yield flat
+    for layout in range(4):
+        yield frame_file(8, 8, layout, some(64))
+        yield frame_file(9, 11, layout, some(99))
+        yield frame_file(10, 8, layout, [rnd.choice([0, 4095]) for _ in range(80)])
+    yield frame_file(8, 8, 0, [4095] * 64)
+    yield frame_file(64, 64, 1, some(4096))
+    yield frame_file(8, 512, 2, some(4096))
+    yield frame_file(512, 8, 3, some(4096))
+    # 8
+    yield b''
+    yield flat[:9]
+    yield flat[:10]
+    yield flat[:137]
+    yield flat + b'\0'
+    yield frame_file(64, 64, 0, some(4096)) + b'\0'
+    yield frame_file(8, 8, 0, [100] * 64, version=0)
+    yield frame_file(8, 8, 0, [100] * 64, version=2)
+    yield frame_file(8, 8, 0, [100] * 64, length=132)
+    yield frame_file(8, 8, 0, [100] * 64, length=2 ** 31 + 133)
+    yield flat[:1] + (133).to_bytes(4, 'little') + flat[5:]
+    yield frame_file(8, 9, 0, [100] * 64)
+    yield frame_file(7, 8, 4, [5000] * 55)
+    yield frame_file(32768, 65535, 0, [])
+    yield frame_file(65535, 65535, 0, [])
+    # 1, also before 2 and 6
+    yield frame_file(7, 8, 0, some(56))
+    yield frame_file(8, 7, 4, [5000] * 56)
+    yield frame_file(0, 8, 0, [])
+    yield frame_file(8, 0, 0, [])
+    yield frame_file(0, 4097, 9, [])
+    yield frame_file(1, 4096, 0, some(4096))
+    # 2, also before 6
+    yield frame_file(8, 8, 4, some(64))
+    yield frame_file(8, 8, 255, [4096] * 64)
+    # 6
+    yield frame_file(8, 8, 0, [100] * 63 + [4096])
+    yield frame_file(8, 8, 0, [65535] + [100] * 63)
+    yield frame_file(8, 8, 0, [100] * 63 + [4095])
+
+
+rules = reference.Rules('base')
+with open(os.path.join(CRATE, 'stdin'), 'wb') as out, open(os.path.join(CRATE, 'stdout'), 'w') as printed:
+    for data in cases():
+        out.write(len(data).to_bytes(2, 'big') + data)
+        printed.write(reference.program(rules, data))

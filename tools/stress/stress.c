@@ -1,0 +1,245 @@
+/* Random calls of the library, whole and damaged, compared with reference/demosaic.c.
+ *
+ *   stress [cases [seed]]    default 100000 cases, seed 1
+ *
+ * Each case is a strip call, a row view and a partner view. Every buffer of a strip ends at a protected page, so a touch past its
+ * end stops the program; every second case runs again with buffers that start just after a protected page. What is lent to be
+ * read is mapped read-only, so a write to it stops the program too. A plane is compared whole, with up to 8 KB on each side of it.
+ * The views are compared with their rule, worked out in 128 bits. */
+#define _GNU_SOURCE
+#include <signal.h>
+#include <stdint.h>
+#include <stdio.h>
+#include <stdlib.h>
+#include <string.h>
+#include <sys/mman.h>
+#include <unistd.h>
+#include "rokzimp.h"
+
+int demosaic_strip(uint64_t W, uint64_t H, uint64_t layout, uint64_t a, uint64_t n, const uint16_t *piece, uint64_t len,
+                   uint16_t *R, uint64_t rlen, uint16_t *G, uint64_t glen, uint16_t *B, uint64_t blen);
+
+typedef unsigned __int128 wide;
+
+static uint64_t state, the_case, the_seed;
+static uint64_t rnd(void) { /* xorshift64* */
+    state ^= state >> 12;
+    state ^= state << 25;
+    state ^= state >> 27;
+    return state * 2685821657736338717u;
+}
+static uint64_t below(uint64_t n) { return n ? (rnd() >> 11) % n : 0; }
+static int one_in(uint64_t n) { return below(n) == 0; }
+
+/* room for samples with a protected page at each end; `lent` is the same memory, read-only where it is to be read only */
+enum { ROOM = 1 << 18 }; /* samples; a whole number of pages */
+typedef struct { uint16_t *fill, *lent; } Room;
+
+static Room room(int read_only) {
+    size_t page = (size_t)sysconf(_SC_PAGESIZE), bytes = (size_t)ROOM * 2;
+    int fd = memfd_create("room", 0);
+    if (fd < 0 || ftruncate(fd, (off_t)bytes)) { perror("memfd"); exit(2); }
+    Room r;
+    r.fill = mmap(0, bytes, PROT_READ | PROT_WRITE, MAP_SHARED, fd, 0);
+    char *around = mmap(0, bytes + 2 * page, PROT_NONE, MAP_PRIVATE | MAP_ANONYMOUS, -1, 0);
+    if (r.fill == MAP_FAILED || around == MAP_FAILED) { perror("mmap"); exit(2); }
+    r.lent = mmap(around + page, bytes, read_only ? PROT_READ : PROT_READ | PROT_WRITE, MAP_SHARED | MAP_FIXED, fd, 0);
+    if (r.lent == MAP_FAILED) { perror("mmap"); exit(2); }
+    close(fd);
+    return r;
+}
+/* where a buffer of so many samples starts in a room: at its start, or so that it ends at its end */
+static size_t place(int at_start, size_t samples) { return at_start ? 0 : ROOM - samples; }
+
+static void stopped(int sig) {
+    char text[200];
+    int n = snprintf(text, sizeof text, "STOPPED by signal %d (a touch outside a lent buffer, or a write to one lent to be read) in case %llu, seed %llu\n",
+                     sig, (unsigned long long)the_case, (unsigned long long)the_seed);
+    if (write(1, text, (size_t)n) < 0) {}
+    _exit(3);
+}
+
+static uint64_t mismatches;
+static void mismatch(const char *what, uint64_t got, uint64_t asked) {
+    if (mismatches++ < 20)
+        printf("MISMATCH in case %llu: %s is %llu, asked %llu\n", (unsigned long long)the_case, what, (unsigned long long)got, (unsigned long long)asked);
+}
+static void differs(int colour, uint32_t number) {
+    static const char *const names[3] = {"red", "green", "blue"};
+    if (mismatches++ < 20) printf("MISMATCH in case %llu, number %u: the %s plane\n", (unsigned long long)the_case, number, names[colour]);
+}
+static void same(const char *what, uint64_t got, uint64_t asked) {
+    if (got != asked) mismatch(what, got, asked);
+}
+
+/* a size: mostly small, sometimes at or beyond the limits */
+static uint64_t size(void) {
+    static const uint64_t edge[] = {8, 9, 10, 11, 14, 15, 16, 17, 63, 64, 65, 4095, 4096};
+    if (one_in(3)) return edge[below(sizeof edge / sizeof *edge)];
+    if (one_in(8)) return 8 + below(4089);
+    return 8 + below(60);
+}
+static uint64_t odd_number(void) { /* any number, with those near the limits and near wrapping more often */
+    static const uint64_t edge[] = {0, 1, 6, 7, 8, 4096, 4097, 65535, 65536, 1u << 31, UINT32_MAX, (uint64_t)UINT32_MAX + 1,
+                                    (uint64_t)1 << 52, (uint64_t)1 << 63, UINT64_MAX - 7, UINT64_MAX - 1, UINT64_MAX};
+    if (one_in(4)) return rnd() >> below(64);
+    return edge[below(sizeof edge / sizeof *edge)] + (one_in(4) ? below(9) : 0);
+}
+static size_t other_length(size_t len, uint64_t w) { /* a length that is mostly not len */
+    size_t l;
+    switch (below(7)) {
+    case 0: l = len + 1; break;
+    case 1: l = len - 1; break;
+    case 2: l = len + (size_t)w; break;
+    case 3: l = len - (size_t)w; break;
+    case 4: l = 0; break;
+    case 5: l = 2 * len; break;
+    default: l = (size_t)below(ROOM + 1); break;
+    }
+    return l > ROOM ? ROOM : l;
+}
+
+static void readings(uint16_t *p, size_t len) {
+    uint64_t kind = below(7), v = below(4096), step = below(4096), g = rnd();
+    for (size_t k = 0; k < len; k++) {
+        g = g * 6364136223846793005u + 1442695040888963407u;
+        uint64_t x = g >> 33;
+        p[k] = (uint16_t)(kind == 0 ? x % 4096 : kind == 1 ? (x % 2) * 4095 : kind == 2 ? v : kind == 3 ? (v + step * k) % 4096
+                          : kind == 4 ? (v + x % 8) % 4096 : kind == 5 ? (x % 16 ? 0 : 4095) : (k / 7 % 2 ? 4095 - x % 3 : x % 3));
+    }
+}
+
+static Room piece, plane[3];
+static uint16_t *expected[3];
+static uint64_t strips[8], rows_seen[8], partners[8], calls;
+
+static void strip_case(int twice) {
+    /* a whole call first */
+    uint64_t W, H, a, n, layout = below(4);
+    for (;;) {
+        W = size();
+        H = size();
+        a = one_in(4) ? below(20) : one_in(3) ? H - 1 - below(H < 20 ? H : 20) : below(H);
+        if (a >= H) a = H - 1;
+        n = one_in(3) ? 1 : one_in(3) ? H - a : 1 + below(H - a < 40 ? H - a : 40);
+        uint64_t hi = a + n + 7 < H ? a + n + 7 : H, lo = a < 7 ? 0 : a - 7;
+        if ((hi - lo) * W <= (one_in(15) ? ROOM : 12000)) break;
+    }
+    uint64_t lo = a < 7 ? 0 : a - 7, hi = a + n + 7 < H ? a + n + 7 : H;
+    size_t len = (size_t)((hi - lo) * W), lens[3];
+    for (int c = 0; c < 3; c++) lens[c] = (size_t)(n * W);
+    /* then the damage */
+    int over = 0;
+    if (!one_in(3))
+        for (uint64_t k = 1 + below(2); k > 0; k--)
+            switch (below(9)) {
+            case 0: W = one_in(2) ? odd_number() : W + 1 - 2 * below(2); break;
+            case 1: H = one_in(2) ? odd_number() : H + 1 - 2 * below(2); break;
+            case 2: layout = one_in(2) ? 4 : below(256); break;
+            case 3: a = one_in(2) ? odd_number() : H - n + 1; break;
+            case 4: n = one_in(3) ? 0 : one_in(2) ? odd_number() : one_in(2) ? H - a + 1 : (uint64_t)0 - a; break;
+            case 5: len = other_length(len, W); break;
+            case 6: { int c = (int)below(3); lens[c] = other_length(lens[c], W); break; }
+            default: over = 1; break;
+            }
+    size_t at_high = over && len ? (one_in(3) ? 0 : one_in(2) ? len - 1 : (size_t)below(len)) : 0;
+    uint64_t start = rnd();
+
+    for (int round = 0; round <= twice; round++) {
+        size_t from = place(round, len), at[3];
+        if (round == 0) {
+            readings(piece.fill + from, len);
+            if (over && len) piece.fill[from + at_high] = one_in(2) ? 4096 : (uint16_t)(4096 + below(61440));
+        } else
+            memmove(piece.fill + from, piece.fill + place(0, len), len * 2);
+        for (int c = 0; c < 3; c++) {
+            at[c] = place(round, lens[c]);
+            /* what the plane holds before: it, and the same stretch of room beside it, are compared afterwards */
+            size_t lo_c = at[c] < 4096 ? 0 : at[c] - 4096, hi_c = at[c] + lens[c] + 4096 > ROOM ? ROOM : at[c] + lens[c] + 4096;
+            uint64_t g = start + (uint64_t)c;
+            for (size_t k = lo_c; k < hi_c; k++) {
+                g = g * 6364136223846793005u + 1442695040888963407u;
+                plane[c].fill[k] = expected[c][k] = (uint16_t)(g >> 40);
+            }
+        }
+        int asked = demosaic_strip(W, H, layout, a, n, piece.lent + from, len, expected[0] + at[0], lens[0], expected[1] + at[1], lens[1],
+                                   expected[2] + at[2], lens[2]);
+        uint32_t got = rokzimp_strip(W, H, (uint8_t)layout, a, n, piece.lent + from, len, plane[0].lent + at[0], lens[0],
+                                     plane[1].lent + at[1], lens[1], plane[2].lent + at[2], lens[2]);
+        calls++;
+        same("the number of the check", rokzimp_strip_check(W, H, (uint8_t)layout, a, n, piece.lent + from, len, lens[0], lens[1], lens[2]), (uint64_t)asked);
+        same("the strip's number", got, (uint64_t)asked);
+        strips[got < 8 ? got : 0]++;
+        for (int c = 0; c < 3; c++) {
+            size_t lo_c = at[c] < 4096 ? 0 : at[c] - 4096, hi_c = at[c] + lens[c] + 4096 > ROOM ? ROOM : at[c] + lens[c] + 4096;
+            if (memcmp(plane[c].fill + lo_c, expected[c] + lo_c, (hi_c - lo_c) * 2)) differs(c, got);
+        }
+    }
+    /* the rows of the piece, for any numbers */
+    uint64_t h = one_in(2) ? H : odd_number(), b = one_in(2) ? a : odd_number(), m = one_in(2) ? n : odd_number();
+    wide last = (wide)b + m + 7 < h ? (wide)b + m + 7 : h, first = b < 7 ? 0 : b - 7;
+    same("the piece's start", rokzimp_piece_start(b), (uint64_t)first);
+    same("the piece's rows", rokzimp_piece_rows(h, b, m), last < first ? 0 : (uint64_t)(last - first));
+}
+
+static int lacks(size_t len, uint64_t W, uint64_t row) { return (wide)len < ((wide)row + 1) * W; }
+static int off(uint64_t n) { return n < 8 || n > 4096; }
+
+static void view_cases(int at_start) {
+    uint64_t W = one_in(4) ? odd_number() : size(), H = one_in(6) ? odd_number() : size(), layout = one_in(8) ? below(256) : below(4);
+    uint64_t row = one_in(4) ? odd_number() : below(one_in(2) ? 20 : 4200);
+    wide want = ((wide)row + 1) * W;
+    size_t fits = want <= ROOM ? (size_t)want : (size_t)below(ROOM + 1), lens[2];
+    for (int c = 0; c < 2; c++) {
+        lens[c] = one_in(2) ? fits : one_in(2) ? other_length(fits, W) : fits + (size_t)below(1000);
+        if (lens[c] > ROOM) lens[c] = ROOM;
+    }
+    /* the planes of a view are lent to be read only */
+    const uint16_t *p = piece.lent + place(at_start, lens[0]), *q = piece.lent + place(at_start, lens[1]);
+    uint32_t number = off(W) ? 1 : lacks(lens[0], W, row) ? 7 : 0;
+    same("the row view's number", rokzimp_row_view_check(p, lens[0], W, row), number);
+    same("the row view's start", rokzimp_row_view_start(p, lens[0], W, row), number ? 0 : row * W);
+    same("the row view's length", rokzimp_row_view_length(p, lens[0], W, row), number ? 0 : W);
+    rows_seen[number]++;
+    number = off(W) || off(H) ? 1 : layout > 3 ? 2 : row >= H || lacks(lens[0], W, row) || lacks(lens[1], W, row) ? 7 : 0;
+    same("the partner view's number", rokzimp_partner_view_check(p, lens[0], q, lens[1], W, H, (uint8_t)layout, row), number);
+    same("the partner view's start", rokzimp_partner_view_start(p, lens[0], q, lens[1], W, H, (uint8_t)layout, row), number ? 0 : row * W);
+    same("the partner view's length", rokzimp_partner_view_length(p, lens[0], q, lens[1], W, H, (uint8_t)layout, row), number ? 0 : W);
+    static const uint32_t partner[4][2] = {{0, 2}, {0, 2}, {2, 0}, {2, 0}};
+    same("the partner view's plane", rokzimp_partner_view_plane((uint8_t)layout, row), layout > 3 ? 0 : partner[layout][row % 2]);
+    partners[number]++;
+}
+
+static void show(const char *what, const uint64_t *counts) {
+    static const char *const words[8] = {"accepted", "off size", "unknown layout", "off the frame", "short halo", "plane misfit", "over range", "no such row"};
+    printf("%s:", what);
+    for (int k = 0; k < 8; k++)
+        if (counts[k]) printf("  %s %llu", words[k], (unsigned long long)counts[k]);
+    printf("\n");
+}
+
+int main(int argc, char **argv) {
+    uint64_t cases = argc > 1 ? strtoull(argv[1], 0, 10) : 100000;
+    the_seed = argc > 2 ? strtoull(argv[2], 0, 10) : 1;
+    state = the_seed * 0x9e3779b97f4a7c15u + 1;
+    signal(SIGSEGV, stopped);
+    signal(SIGBUS, stopped);
+    signal(SIGFPE, stopped);
+    signal(SIGILL, stopped);
+    piece = room(1);
+    for (int c = 0; c < 3; c++) {
+        plane[c] = room(0);
+        expected[c] = malloc((size_t)ROOM * 2);
+    }
+    for (the_case = 0; the_case < cases; the_case++) {
+        strip_case((int)(the_case % 2));
+        view_cases((int)(the_case % 2));
+    }
+    printf("%llu cases, seed %llu; %llu strip calls, %llu row views, %llu partner views\n", (unsigned long long)cases, (unsigned long long)the_seed,
+           (unsigned long long)calls, (unsigned long long)cases, (unsigned long long)cases);
+    show("strips", strips);
+    show("row views", rows_seen);
+    show("partner views", partners);
+    printf("mismatches %llu\n", (unsigned long long)mismatches);
+    return mismatches != 0;
+}

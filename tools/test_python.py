@@ -1,0 +1,311 @@
+#!/usr/bin/env python3
+"""Tests of python/rokzimp.py and tools/frame_to_png.py, and with them of the C library: document 01's examples, each refusal, that
+nothing is copied, that any cutting into strips gives the same planes, and frames compared with reference/reference.py.
+
+    tools/build_library.sh && tools/test_python.py"""
+import array
+import ctypes
+import os
+import random
+import struct
+import subprocess
+import sys
+import tempfile
+import threading
+import tracemalloc
+import unittest
+import zlib
+
+ROOT = os.path.join(os.path.dirname(os.path.abspath(__file__)), "..")
+sys.path[:0] = [os.path.join(ROOT, "python"), os.path.join(ROOT, "reference")]
+import reference
+import rokzimp
+from rokzimp import Refused, partner_view, piece_rows, piece_start, row_view, strip, whole_frame
+
+STAGE = "base"
+RULES = reference.Rules(STAGE)
+
+
+def samples(numbers):
+    return array.array("H", numbers)
+
+
+def planes(count, value=7):
+    return [samples([value] * count) for _ in range(3)]
+
+
+def random_mosaic(rng, count):
+    kind = rng.randrange(4)
+    if kind == 0:
+        return samples(rng.randrange(4096) for _ in range(count))
+    if kind == 1:
+        return samples(rng.choice((0, 4095)) for _ in range(count))
+    if kind == 2:
+        return samples(rng.randrange(2000, 2016) for _ in range(count))
+    return samples(k * 37 % 4096 for k in range(count))
+
+
+def piece_of(mosaic, width, height, first, rows):
+    start = piece_start(first) * width
+    return memoryview(mosaic)[start:start + piece_rows(height, first, rows) * width]
+
+
+class Test(unittest.TestCase):
+    def refused(self, number, call, *arguments):
+        with self.assertRaises(Refused) as caught:
+            call(*arguments)
+        self.assertEqual(caught.exception.number, number)
+        self.assertIn(rokzimp.WORDS[number][0], str(caught.exception))
+
+    # document 01's examples
+
+    def test_pieces(self):
+        self.assertEqual((piece_start(9), piece_rows(20, 9, 2)), (2, 16))
+        self.assertEqual((piece_start(0), piece_rows(20, 0, 1)), (0, 8))
+        self.assertEqual((piece_start(19), piece_rows(20, 19, 1)), (12, 8))
+
+    def test_flat(self):
+        for plane in whole_frame(8, 8, 0, samples([100] * 64)):
+            self.assertEqual(plane, samples([1600] * 64))
+
+    def test_colours(self):
+        for values, wanted in (((400, 200, 100), (6400, 3200, 1600)), ((4095, 0, 0), (65520, 0, 0))):
+            mosaic = samples(values[reference.colour(0, k // 8, k % 8)] for k in range(64))
+            for plane, value in zip(whole_frame(8, 8, 0, mosaic), wanted):
+                self.assertEqual(plane, samples([value] * 64))
+
+    # refusals
+
+    def test_refusals(self):
+        mosaic, (red, green, blue) = samples([100] * 64), planes(64)
+        whole = (0, 8, mosaic, red, green, blue)
+        self.refused(1, strip, 7, 8, 0, *whole)
+        self.refused(1, strip, 8, 4097, 0, *whole)
+        self.refused(1, strip, -8, 8, 0, *whole)
+        self.refused(1, strip, 2 ** 64 + 8, 8, 0, *whole)
+        self.refused(2, strip, 8, 8, 4, *whole)
+        self.refused(2, strip, 8, 8, 256, *whole)
+        self.refused(2, strip, 8, 8, -1, *whole)
+        self.refused(3, strip, 8, 8, 0, 0, 0, mosaic, red, green, blue)
+        self.refused(3, strip, 8, 8, 0, 1, 8, mosaic, red, green, blue)
+        self.refused(3, strip, 8, 8, 0, 1, 2 ** 64 - 1, mosaic, red, green, blue)
+        self.refused(3, strip, 8, 8, 0, 2 ** 64 + 1, 7, mosaic, red, green, blue)
+        self.refused(4, strip, 8, 8, 0, 0, 8, mosaic[:63], red, green, blue)
+        self.refused(4, strip, 8, 8, 0, 0, 8, b"", red, green, blue)
+        for k in range(3):
+            lent = [red, green, blue]
+            lent[k] = samples([7] * 63)
+            self.refused(5, strip, 8, 8, 0, 0, 8, mosaic, *lent)
+        for k in (0, 17, 63):
+            high = mosaic[:]
+            high[k] = 4096
+            self.refused(6, strip, 8, 8, 0, 0, 8, high, red, green, blue)
+        self.assertEqual([red, green, blue], planes(64))
+        mosaic[5] = 4095
+        strip(8, 8, 0, 0, 8, mosaic, red, green, blue)
+
+    def test_sizes(self):
+        for width, height in ((8, 4096), (4096, 8)):
+            whole_frame(width, height, 3, samples([9] * (width * height)))
+        for width, height in ((8, 4097), (4097, 8), (0, 0)):
+            self.refused(1, whole_frame, width, height, 3, samples([9] * (width * height)))
+
+    def test_whole_frame_refused_before_it_starts(self):
+        mosaic = samples([100] * 800)
+        mosaic[799] = 4096
+        lent = planes(800)
+        self.refused(6, whole_frame, 8, 100, 0, mosaic, *lent, 1)
+        self.assertEqual(lent, planes(800))
+        self.refused(4, whole_frame, 8, 100, 0, mosaic[:799], *lent, 1)
+        self.refused(5, whole_frame, 8, 100, 0, samples([1] * 800), lent[0], lent[1], samples([]))
+
+    def test_views_refused(self):
+        plane, other = samples(range(80)), samples(range(80, 152))
+        self.refused(1, row_view, plane, 7, 0)
+        self.refused(7, row_view, plane, 8, 10)
+        self.refused(7, row_view, plane, 8, -1)
+        self.refused(7, row_view, plane, 8, 2 ** 61)
+        self.refused(7, row_view, b"", 8, 0)
+        self.refused(1, partner_view, plane, other, 8, 7, 0, 0)
+        self.refused(2, partner_view, plane, other, 8, 8, 4, 0)
+        self.refused(7, partner_view, plane, other, 8, 8, 0, 8)
+        self.refused(7, partner_view, plane, other, 8, 10, 0, 9)
+        self.refused(7, partner_view, other, plane, 8, 10, 0, 9)
+
+    # what may be lent
+
+    def test_any_buffer(self):
+        rng = random.Random(1)
+        mosaic = random_mosaic(rng, 9 * 10)
+        wanted = whole_frame(9, 10, 2, mosaic)
+        raw = mosaic.tobytes()
+        lent = [raw, bytearray(raw), memoryview(raw), memoryview(mosaic), (ctypes.c_uint16 * 90)(*mosaic),
+                memoryview(raw).cast("H", (10, 9)), memoryview(b"ab" + raw)[2:]]
+        for buffer in lent:
+            self.assertEqual(whole_frame(9, 10, 2, buffer), wanted)
+        for made in (lambda: bytearray(180), lambda: memoryview(bytearray(180)).cast("H", (10, 9)), lambda: (ctypes.c_uint16 * 90)()):
+            got = [made() for _ in range(3)]
+            strip(9, 10, 2, 0, 10, mosaic, *got)
+            self.assertEqual([bytes(p) for p in got], [p.tobytes() for p in wanted])
+
+    def test_not_lent(self):
+        mosaic, (red, green, blue) = samples([1] * 64), planes(64)
+        for wrong, error in ((array.array("h", [1] * 64), TypeError), (array.array("I", [1] * 64), TypeError), ([1] * 64, TypeError),
+                             (bytes(127), BufferError), (memoryview(bytes(129))[1:], BufferError), (memoryview(bytes(256))[::2], BufferError)):
+            with self.assertRaises(error):
+                strip(8, 8, 0, 0, 8, wrong, red, green, blue)
+        with self.assertRaises(BufferError):
+            strip(8, 8, 0, 0, 8, mosaic, red, bytes(128), blue)
+        for lent in ((mosaic, red, red, blue), (red, red, green, blue)):
+            with self.assertRaises(ValueError) as caught:
+                strip(8, 8, 0, 0, 8, *lent)
+            self.assertNotIsInstance(caught.exception, Refused)
+        self.assertEqual([red, green, blue], planes(64))
+
+    def test_numpy(self):
+        try:
+            import numpy
+        except ImportError:
+            self.skipTest("numpy is not installed")
+        mosaic = numpy.arange(80, dtype=numpy.uint16).reshape(10, 8)
+        got = [numpy.zeros((10, 8), numpy.uint16) for _ in range(3)]
+        mosaic.flags.writeable = False
+        whole_frame(8, 10, 1, mosaic, *got, 3)
+        wanted = whole_frame(8, 10, 1, samples(range(80)))
+        self.assertEqual([p.tobytes() for p in got], [p.tobytes() for p in wanted])
+        self.assertTrue(numpy.shares_memory(numpy.asarray(row_view(got[0], 8, 4)), got[0]))
+        with self.assertRaises(BufferError):
+            whole_frame(8, 10, 1, got[0][:, ::2], *got)
+
+    def test_nothing_is_copied(self):
+        mosaic, lent = bytes(2 * 1024 * 64), [bytearray(2 * 1024 * 64) for _ in range(3)]
+        whole_frame(1024, 64, 0, mosaic, *lent)
+        tracemalloc.start()
+        try:
+            whole_frame(1024, 64, 0, mosaic, *lent, 16)
+            row_view(lent[0], 1024, 3)
+            partner_view(lent[0], lent[2], 1024, 64, 0, 3)
+            self.assertLess(tracemalloc.get_traced_memory()[1], 20000)
+        finally:
+            tracemalloc.stop()
+
+    def test_views_are_parts(self):
+        red, blue = samples(range(80)), samples(range(100, 180))
+        view = row_view(red, 8, 9)
+        self.assertEqual((view.format, view.tolist()), ("H", list(range(72, 80))))
+        red[72], view[1] = 500, 600
+        self.assertEqual((view[0], red[73]), (500, 600))
+        for layout in range(4):
+            for row in range(10):
+                plane = blue if reference.row_partner(layout, row) == reference.B else red
+                view = partner_view(red, blue, 8, 10, layout, row)
+                plane[8 * row] = 1000 + row
+                self.assertEqual(view.tolist(), plane[8 * row:8 * row + 8].tolist())
+        self.assertTrue(row_view(bytes(16), 8, 0).readonly)
+
+    # strips
+
+    def test_any_height_of_strips(self):
+        rng = random.Random(2)
+        for width, height in ((8, 8), (13, 31), (20, 24)):
+            mosaic, layout = random_mosaic(rng, width * height), rng.randrange(4)
+            wanted = whole_frame(width, height, layout, mosaic, strip_height=height)
+            for rows in range(1, height + 3):
+                self.assertEqual(whole_frame(width, height, layout, mosaic, strip_height=rows), wanted)
+
+    def test_strips_in_threads(self):
+        width, height, mosaic = 64, 96, random_mosaic(random.Random(3), 64 * 96)
+        wanted, lent = whole_frame(width, height, 1, mosaic), planes(64 * 96)
+
+        def work(first):
+            part = slice(first * width, (first + 8) * width)
+            strip(width, height, 1, first, 8, piece_of(mosaic, width, height, first, 8), *(memoryview(p)[part] for p in lent))
+
+        threads = [threading.Thread(target=work, args=(first,)) for first in range(0, height, 8)]
+        for thread in threads:
+            thread.start()
+        for thread in threads:
+            thread.join()
+        self.assertEqual(tuple(lent), wanted)
+
+    # the other implementation
+
+    def test_reference_frames(self):
+        rng = random.Random(4)
+        for k in range(24):
+            width, height, layout = rng.randrange(8, 20), rng.randrange(8, 20), k % 4
+            mosaic = random_mosaic(rng, width * height)
+            wanted = reference.whole(RULES, reference.Frame(width, height, layout), mosaic)
+            self.assertEqual([p.tolist() for p in whole_frame(width, height, layout, mosaic, strip_height=rng.randrange(1, 20))], wanted)
+
+    def test_reference_strips(self):
+        rng = random.Random(5)
+        for k in range(300):
+            width, height, layout = rng.randrange(6, 14), rng.randrange(6, 30), rng.randrange(5)
+            first, rows = rng.randrange(height + 2), rng.randrange(5)
+            lengths = [max(0, rows * width + rng.choice((0, 0, 0, 0, 0, 0, 0, 1, -1))) for _ in range(3)]
+            count = max(0, piece_rows(height, first, rows) * width + rng.choice((0, 0, 0, 0, 0, 0, 0, 0, 1, -1)))
+            piece = random_mosaic(rng, count)
+            if count and rng.randrange(4) == 0:
+                piece[rng.randrange(count)] = 4096
+            wanted = [[5] * length for length in lengths]
+            number = reference.strip_call(RULES, reference.Frame(width, height, layout), first, rows, piece.tolist(), wanted)
+            got = [samples([5] * length) for length in lengths]
+            try:
+                strip(width, height, layout, first, rows, piece, *got)
+                self.assertEqual(number, 0)
+            except Refused as refused:
+                self.assertEqual(number, refused.number)
+            self.assertEqual([p.tolist() for p in got], wanted)
+
+    # pictures
+
+    def run_tool(self, data, *words):
+        with tempfile.TemporaryDirectory() as folder:
+            name, out = os.path.join(folder, "frame"), os.path.join(folder, "out")
+            with open(name, "wb") as file:
+                file.write(data)
+            run = subprocess.run([sys.executable, os.path.join(ROOT, "tools", "frame_to_png.py"), name, out, *words], stdout=subprocess.PIPE)
+            files = {}
+            for end in ("red", "green", "blue", "png"):
+                if os.path.exists(out + "." + end):
+                    with open(out + "." + end, "rb") as file:
+                        files[end] = file.read()
+            return run.returncode, run.stdout, files
+
+    def test_picture(self):
+        width, height = 80, 60
+        mosaic = random_mosaic(random.Random(6), width * height)
+        data = struct.pack(">BIHHB", 1, 5 + 2 * len(mosaic), width, height, 3) + struct.pack(">%dH" % len(mosaic), *mosaic)
+        self.assertGreater(len(data), 8202)
+        code, said, files = self.run_tool(data, "7")
+        self.assertEqual((code, said), (0, b""))
+        wanted = whole_frame(width, height, 3, mosaic)
+        for name, plane in zip(("red", "green", "blue"), wanted):
+            self.assertEqual(files[name], struct.pack(">%dH" % len(plane), *plane))
+        png, at, body = files["png"], 8, b""
+        self.assertEqual(png[:8], b"\x89PNG\r\n\x1a\n")
+        while at < len(png):
+            length, name = struct.unpack(">I4s", png[at:at + 8])
+            self.assertEqual(struct.unpack(">I", png[at + 8 + length:at + 12 + length])[0], zlib.crc32(png[at + 4:at + 8 + length]))
+            if name == b"IHDR":
+                self.assertEqual(png[at + 8:at + 8 + length], struct.pack(">IIBBBBB", width, height, 8, 2, 0, 0, 0))
+            body += png[at + 8:at + 8 + length] if name == b"IDAT" else b""
+            at += 12 + length
+        lines = zlib.decompress(body)
+        for i, j in ((0, 0), (59, 79), (30, 41)):
+            pixel = lines[i * (3 * width + 1) + 1 + 3 * j:][:3]
+            self.assertEqual(list(pixel), [plane[i * width + j] // 256 for plane in wanted])
+
+    def test_files_refused(self):
+        flat = struct.pack(">BIHHB64H", 1, 133, 8, 8, 0, *[100] * 64)
+        self.assertEqual(flat[:10].hex(), "01000000850008000800")
+        for data, number in ((b"", 8), (flat[:9], 8), (flat[:-1], 8), (flat + b"\0", 8), (b"\2" + flat[1:], 8),
+                             (struct.pack(">BIHHB", 1, 5, 0, 0, 9), 1), (struct.pack(">BIHHB56H", 1, 117, 7, 8, 0, *[1] * 56), 1),
+                             (flat[:9] + b"\4" + flat[10:], 2), (flat[:-2] + b"\x10\0", 6)):
+            self.assertEqual(self.run_tool(data), (1, b"refused %d\n" % number, {}))
+        self.assertEqual(self.run_tool(flat)[0], 0)
+
+
+if __name__ == "__main__":
+    unittest.main()
