@@ -1,9 +1,10 @@
 /* rokzimp.h - red, green and blue planes from a Bayer mosaic: strip calls, and views of the planes.
  *
- * Each function below is proved to keep what is said of it, for every value of its arguments (crates/capi/src/lib.rt has the
- * contracts). The proof relies on the caller for this:
+ * Each function below is proved to return, to answer and to write what is said of it, for every value of its arguments
+ * (crates/capi/src/lib.rt has the contracts). What is said of stack, heap and locks was measured and seen in the code, not proved.
+ * The proof relies on the caller for this:
  *
- *   - A pointer and the count after it are one run of that many 16-bit samples, which the call may read and, where the pointer
+ *   - A pointer and the count after it are one run of that many 16-bit samples, at an even address, which the call may read and, where the pointer
  *     is not to const, write. With a count of 0 the pointer is not used, and must still not be NULL.
  *   - A run that is written (red, green, blue of a strip) overlaps no other run of the same call. Runs that are only read may
  *     overlap each other.
@@ -39,7 +40,7 @@ enum {
     ROKZIMP_SHORT_HALO = 4,     /* "short halo": the piece of the mosaic has not the exact length */
     ROKZIMP_PLANE_MISFIT = 5,   /* "plane misfit": one of the planes is not rows * width long */
     ROKZIMP_OVER_RANGE = 6,     /* "over range": some reading of the piece is above 4095 */
-    ROKZIMP_NO_SUCH_ROW = 7     /* "no such row": a plane is shorter than (row + 1) * width, not wrapped; or row >= height */
+    ROKZIMP_NO_SUCH_ROW = 7     /* "no such row": a plane is shorter than (row + 1) * width, not wrapped; partner view: or row >= height */
 };
 
 /* The rows of the mosaic that a strip of `rows` rows from `first_row` on is lent: rokzimp_piece_rows rows from row
@@ -57,7 +58,7 @@ uint32_t rokzimp_strip(size_t width, size_t height, uint8_t layout, size_t first
                        uint16_t *green, size_t green_count,
                        uint16_t *blue, size_t blue_count);
 
-/* The number that rokzimp_strip returns for such a call, and nothing else done. It reads the whole piece. */
+/* The number that rokzimp_strip returns for such a call, and nothing else done. */
 uint32_t rokzimp_strip_check(size_t width, size_t height, uint8_t layout, size_t first_row, size_t rows,
                              const uint16_t *piece, size_t piece_count,
                              size_t red_count, size_t green_count, size_t blue_count);

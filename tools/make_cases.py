@@ -378,6 +378,7 @@ def main():
     m.row_views(200)
     m.partner_views(240)
     m.fusions(600)
+    os.makedirs(where, exist_ok=True)
     for name, lines in (('stdin', m.lines), ('stdout', m.answers)):
         with open(os.path.join(where, name), 'w') as out:
             out.write('\n'.join(lines) + '\n')

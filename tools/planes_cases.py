@@ -1,5 +1,5 @@
 #!/usr/bin/env python3
-"""planes_cases.py: writes crates/planes_cases/stdin, frame files each behind a two-byte length,
+"""planes_cases.py SEED [DIRECTORY]: writes crates/planes_cases/stdin (SEED 1), frame files each behind a two-byte length,
 and crates/planes_cases/stdout, what reference/reference.py's program prints for each."""
 import os
 import random
@@ -10,7 +10,7 @@ sys.dont_write_bytecode = True
 sys.path.insert(0, os.path.join(HERE, '..', 'reference'))
 import reference
 
-CRATE = os.path.join(HERE, '..', 'crates', 'planes_cases')
+WHERE = sys.argv[2] if len(sys.argv) > 2 else os.path.join(HERE, '..', 'crates', 'planes_cases')
 
 
 def frame_file(w, h, layout, readings, version=1, length=None):
@@ -20,7 +20,7 @@ def frame_file(w, h, layout, readings, version=1, length=None):
 
 
 def cases():
-    rnd = random.Random(1)
+    rnd = random.Random(int(sys.argv[1]))
 
     def some(n, top=4095):
         return [rnd.randint(0, top) for _ in range(n)]
@@ -52,6 +52,8 @@ def cases():
     yield frame_file(7, 8, 4, [5000] * 55)
     yield frame_file(32768, 65535, 0, [])
     yield frame_file(65535, 65535, 0, [])
+    # 5 + 2 W H is the length of the rest, but for 2^32
+    yield frame_file(46317, 46365, 0, [100] * 4057)
     # 1, also before 2 and 6
     yield frame_file(7, 8, 0, some(56))
     yield frame_file(8, 7, 4, [5000] * 56)
@@ -69,7 +71,8 @@ def cases():
 
 
 rules = reference.Rules('base')
-with open(os.path.join(CRATE, 'stdin'), 'wb') as out, open(os.path.join(CRATE, 'stdout'), 'w') as printed:
+os.makedirs(WHERE, exist_ok=True)
+with open(os.path.join(WHERE, 'stdin'), 'wb') as out, open(os.path.join(WHERE, 'stdout'), 'w') as printed:
     for data in cases():
         out.write(len(data).to_bytes(2, 'big') + data)
         printed.write(reference.program(rules, data))

@@ -297,6 +297,31 @@ class Test(unittest.TestCase):
             pixel = lines[i * (3 * width + 1) + 1 + 3 * j:][:3]
             self.assertEqual(list(pixel), [plane[i * width + j] // 256 for plane in wanted])
 
+    def test_readme(self):
+        """The README's C, Python and picture examples do what it says."""
+        with open(os.path.join(ROOT, "README.md")) as file:
+            lines = [line[4:] for line in file if line.startswith("    ") or line == "\n"]
+        first = lines.index("#include <stdio.h>\n")
+        program = "".join(lines[first:lines.index("}\n", first) + 1])
+        first = next(k for k, line in enumerate(lines) if line.startswith("import sys"))
+        last = next(k for k, line in enumerate(lines) if "no such row" in line)
+        script = "".join(lines[first:last + 1])
+        with tempfile.TemporaryDirectory() as folder:
+            source, binary, out = (os.path.join(folder, name) for name in ("strip.c", "strip", "out"))
+            with open(source, "w") as file:
+                file.write(program)
+            library = os.path.join(ROOT, "target", "lib", "librokzimp.a")
+            subprocess.run(["gcc", "-I", os.path.join(ROOT, "include"), "-o", binary, source, library], check=True)
+            self.assertEqual(subprocess.run([binary], capture_output=True, check=True).stdout, b"0 1600 1600 1600\n")
+            ran = subprocess.run([sys.executable, "-c", script], capture_output=True, check=True, cwd=ROOT)
+            self.assertEqual(ran.stdout, b"7 no such row\n")
+            frame = os.path.join(ROOT, "crates", "planes", "stdin")
+            subprocess.run([os.path.join(ROOT, "tools", "frame_to_png.py"), frame, out], check=True)
+            with open(out + ".red", "rb") as file:
+                self.assertEqual(file.read(), struct.pack(">64H", *[1600] * 64))
+            with open(out + ".png", "rb") as file:
+                self.assertEqual(file.read(8), b"\x89PNG\r\n\x1a\n")
+
     def test_files_refused(self):
         flat = struct.pack(">BIHHB64H", 1, 133, 8, 8, 0, *[100] * 64)
         self.assertEqual(flat[:10].hex(), "01000000850008000800")

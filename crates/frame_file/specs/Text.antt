@@ -1,5 +1,5 @@
 -- The lines that the small program prints, as bytes. Assumes nothing.
-use Prim.Native.Nat.{ℕ, zero, suc, _+_, _/_, _%_, min, max}
+use Prim.Native.Nat.{ℕ, zero, suc, _+_, _/_, _%_, _≤_, _<_, min, max}
 use mathlib.Core.Path.{_≡_}
 use mathlib.Core.Bool.{cond}
 use mathlib.Core.List.{List, [], _∷_, _++_}
@@ -56,3 +56,8 @@ refusalLine number = 114 ∷ 101 ∷ 102 ∷ 117 ∷ 115 ∷ 101 ∷ 100 ∷ (sp
 pub record Printed (text : List ℕ) (at : ℕ) (before after : List ℕ) (end : ℕ) : Type 0 where
   pub until : end ≡ at + length text
   pub bytes : after ≡ put at text before
+
+-- a text is put at the start of a lent buffer of 105 bytes at least; a shorter one is left alone, and the answer is 0
+pub record Answered (text before after : List ℕ) (end : ℕ) : Type 0 where
+  pub printed : 105 ≤ length before → Printed text 0 before after end × (end ≤ 105)
+  pub short : length before < 105 → (end ≡ 0) × (after ≡ before)

@@ -54,7 +54,7 @@ fn over_range(piece: &[u16]) -> bool
     false
 }
 
-// The number of a strip call: 0, or its refusal. It reads the whole piece and writes nothing.
+// The number of a strip call: 0, or its refusal. Refusal 6 comes last, as it reads the piece. Nothing is written.
 pub fn strip_check(
     frame: Frame,
     a: usize,

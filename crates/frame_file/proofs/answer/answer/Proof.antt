@@ -6,6 +6,9 @@ use Rattle.frame_file.proofs.AnswerLaws.{torn-line}
 use Rattle.frame_file.proofs.answer.answer.Statement.{statement}
 use Rattle.frame_file.proofs.answer.answer.Tie as tie
 
+returns : tie.Need-returns
+returns c = record { printed = λ h. absurd (omega (arith, h, c .if1 .taken)); short = λ h. (refl, refl) }
+
 is-malformed-requires : tie.Need-is-malformed-requires
 is-malformed-requires c κs = search needs
 
@@ -15,11 +18,14 @@ put-refusal-line-requires c κs = search needs
 same-length : tie.Need-same-length
 same-length c = search needs
 
-returns : tie.Need-returns
-returns c =
+returns-2 : tie.Need-returns-2
+returns-2 c =
     let p = c .before .before in
     let m = p .before .before .before in
-    (rw (torn-line (m .before .before .before .args .bytes .now) (sym (m .is-malformed .ensures) ∙ p .before .before .if1 .taken)) (p .put-refusal-line .ensures .0), omega (arith, p .put-refusal-line .ensures .1))
+    record {
+      printed = λ h. (rw (torn-line (m .before .before .before .before .args .bytes .now) (sym (m .is-malformed .ensures) ∙ p .before .before .if2 .taken)) (p .put-refusal-line .ensures .0), omega (arith, p .put-refusal-line .ensures .1));
+      short = λ h. absurd (omega (arith, h, m .before .if1 .left));
+    }
 
 slice-aggregate-file-answer : tie.Need-slice-aggregate-file-answer
 slice-aggregate-file-answer c = search needs
@@ -36,26 +42,29 @@ slice-aggregate-file-answer-4 c = search needs
 file-answer-requires : tie.Need-file-answer-requires
 file-answer-requires c κs =
     let e = c .before .before .before .before .before in
-    ((sym (e .before .is-malformed .ensures) ∙ e .if1 .left, omega (arith, e .before .before .before .before .pre)), (refl, refl, refl, refl))
+    ((sym (e .before .is-malformed .ensures) ∙ e .if2 .left, e .before .before .if1 .left), (refl, refl, refl, refl))
 
 same-length-2 : tie.Need-same-length-2
 same-length-2 c = search needs
 
-returns-2 : tie.Need-returns-2
-returns-2 c = search needs
+returns-3 : tie.Need-returns-3
+returns-3 c =
+    let a = c .before .before .before .before .before .before in
+    record { printed = λ h. a .file-answer .ensures; short = λ h. absurd (omega (arith, h)) }
 
 pub answer-spec : {M : Type 1} → statement M
 answer-spec =
     tie.close
     (tie.spec
+    returns
     is-malformed-requires
     put-refusal-line-requires
     same-length
-    returns
+    returns-2
     slice-aggregate-file-answer
     slice-aggregate-file-answer-2
     slice-aggregate-file-answer-3
     slice-aggregate-file-answer-4
     file-answer-requires
     same-length-2
-    returns-2)
+    returns-3)
