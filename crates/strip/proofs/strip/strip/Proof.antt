@@ -1,5 +1,6 @@
 -- `strip::strip::strip` meets its contract. Assumes nothing.
-use mathlib.Core.Path.{sym, _∙_}
+use native.Mathlib.Omega.{arith}
+use mathlib.Core.Path.{_≡_, sym, _∙_}
 use Rattle.strip.specs.Strip.{left}
 use Rattle.strip.proofs.PlaneLaws.{left-lent}
 use borrow.Author.Needs.{needs}
@@ -10,12 +11,9 @@ strip-check-requires : tie.Need-strip-check-requires
 strip-check-requires c κs = search needs
 
 returns : tie.Need-returns
-returns c = record {
-  number = c .before .strip-check .ensures;
-  red = sym (left-lent _ _ _ (c .if1 .taken));
-  green = sym (left-lent _ _ _ (c .if1 .taken));
-  blue = sym (left-lent _ _ _ (c .if1 .taken));
-}
+returns c =
+    let refused : c .before .strip-check .result ≡ 0 → ⊥ = λ e. omega (arith, e, c .if1 .taken) in
+    record { number = c .before .strip-check .ensures; red = sym (left-lent _ _ _ refused); green = sym (left-lent _ _ _ refused); blue = sym (left-lent _ _ _ refused) }
 
 slice-aggregate-fill : tie.Need-slice-aggregate-fill
 slice-aggregate-fill c = search needs
