@@ -4,8 +4,8 @@ ghost use Rattle.gbtf.specs.Fusion.{Fitting};
 use crate::print;
 use gbtf::direction::Direction;
 use gbtf::fusion::green;
-use green_rows::fuse::SCALE;
-use green_rows::fuse::TOTAL;
+use green_rows::weights::SCALE;
+use green_rows::weights::TOTAL;
 
 // A five-sum, which the case gives with 524288 added.
 fn five_sum(a: usize) -> i64

@@ -13,6 +13,10 @@ abbrev pub sumOf : List ℤ → ℤ
 sumOf [] = pos 0
 sumOf (e ∷ es) = e +ℤ sumOf es
 
--- from n neighbours, four or two, of which e adds to sum, at a pixel of green g: the floor of (n g − sum + n/2) / n, clamped
+-- from n neighbours, four or two, of which e adds to sum, at a pixel of green g: the floor of (n g − sum + n/2) / n
+abbrev pub unclamped : (n g : ℕ) (sum : ℤ) → ℤ
+unclamped n g sum = floorDiv (pos (n * g) -ℤ sum +ℤ pos (n / 2)) n
+
+-- clamped
 unfoldable pub fill : (n g : ℕ) (sum : ℤ) → ℕ
-fill n g sum = clamp (floorDiv (pos (n * g) -ℤ sum +ℤ pos (n / 2)) n)
+fill n g sum = clamp (unclamped n g sum)

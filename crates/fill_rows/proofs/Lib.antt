@@ -1,3 +1,5 @@
 pub mod SideLaws
+pub mod ChoiceLaws
+pub mod EndLaws
 pub mod RowColours
 pub mod FillRowLaws

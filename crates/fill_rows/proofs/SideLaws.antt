@@ -1,16 +1,23 @@
 -- What is read at a position of a row or a column, just before it and just after it. Assumes nothing.
-use Prim.Native.Nat.{ℕ, _+_, _≤_, _<_}
-use mathlib.Core.Path.{_≡_, refl, sym, ap}
+use Prim.Native.Nat.{ℕ, _+_, _-_, _≤_, _<_}
+use mathlib.Core.Path.{_≡_, refl, sym, ap, _∙_}
 use native.Mathlib.Omega.{arith}
 use lib.Dec.{lit≤}
 use lib.IntN.{ℤ, pos, subℕ, _+ℤ_, _-ℤ_}
 use Rattle.whole.proofs.Pairs.{sub-pos}
 use Rattle.bayer.specs.Mirror.{mirror}
-use Rattle.bayer.proofs.MirrorLaws.{mirror-near, mirror-lt, mirror-inside}
+use Rattle.bayer.proofs.MirrorLaws.{mirror-near, mirror-lt, mirror-inside, mirror-from}
 
 -- it lies inside
 pub side-in : (size at lead : ℕ) → 2 ≤ size → at ≤ size → lead ≤ 1 → mirror size (subℕ at lead) < size
 side-in size at lead h k l = mirror-lt size (subℕ at lead) (omega arith) (mirror-near size at lead (omega arith) (omega arith))
+
+-- away from the ends it is the position itself
+pub before-inside : (size p : ℕ) → 1 ≤ p → p ≤ size → p - 1 ≡ mirror size (subℕ p 1)
+before-inside size p h k = sym (mirror-from size p 1 h ∙ mirror-inside size (p - 1) (omega arith))
+
+pub after-inside : (size p : ℕ) → p + 1 < size → p + 1 ≡ mirror size (subℕ (p + 1) 0)
+after-inside size p h = sym (ap (mirror size) (sub-pos (p + 1) 0 (p + 1) (omega arith)) ∙ mirror-inside size (p + 1) h)
 
 -- n, inside, is read for position z
 abbrev pub Read : (size n : ℕ) (z : ℤ) → Type 0

@@ -4,19 +4,20 @@ use mathlib.Core.List.{List, [], _∷_}
 use Prim.Native.Nat.{ℕ, _+_, _*_, _-_, _≤_, _<_}
 use native.Mathlib.Nat.{le-refl, mul-pos, mul-le-mul-left, mul-le-mul}
 use native.Mathlib.Omega.{arith}
-use lib.IntN.{ℤ, pos, negsuc, natAbs, _+ℤ_, _*ℤ_}
+use lib.IntN.{ℤ, pos, natAbs, _+ℤ_, _*ℤ_}
 use lib.ListN.{length}
 use Rattle.whole.specs.Parts.{up, down}
 use Rattle.whole.specs.Clamp.{clamp}
 use Rattle.whole.specs.Fraction.{Fraction, ratio, integer, natural, _+ᶠ_, times, dividedBy, quotient, clampᶠ, Same, Within}
 use Rattle.whole.proofs.Pairs.{+ℤ-up, up-times, down-times}
+use Rattle.whole.proofs.Magnitudes.{up-le, down-le}
 use Rattle.whole.proofs.Lists.{Every, every, everywhere}
 use Rattle.whole.proofs.FractionLaws.{within-trans, within-clamp, within-wider, add-up, within-from, within-to, within-shift, clamp-is, sum-is, rounded-near}
 use Rattle.gbtf.specs.declared.direction.Direction.{Direction}
 use Rattle.gbtf.specs.Direction.{t}
 use Rattle.gbtf.specs.Fusion.{smallest, share, shares, sharedDifferences, fusion, green}
 use Rattle.gbtf.specs.Exact.{sumOver/t², sumOfA/t², sumOf1/t², above0, exactGreen}
-use Rattle.gbtf.proofs.Mean.{square, prod, mixed, shared, loose, one, mixed-bound, means, attained, loose-less, shares-least}
+use Rattle.gbtf.proofs.Mean.{square, prod, mixed, shared, loose, one, mixed-bound, means, attained, loose-less, least-pos, shares-least}
 
 a⁺ : Direction → ℕ
 a⁺ d = up (d .differences)
@@ -85,19 +86,6 @@ flip : (b x y u v a w z : ℕ) → b * (x + y) ≤ b * (u + v) + a * (w * z) →
 flip b x y u v a w z h = omega arith
 
 -- ---- the whole
-
--- |A| ≤ B, on both sides of 0
-up-le : (z : ℤ) (B : ℕ) → natAbs z ≤ B → up z ≤ B
-up-le (pos n) B h = h
-up-le (negsuc n) B h = omega arith
-
-down-le : (z : ℤ) (B : ℕ) → natAbs z ≤ B → down z ≤ B
-down-le (pos n) B h = omega arith
-down-le (negsuc n) B h = h
-
-least-pos : (d : Direction) (l : List Direction) → 0 < smallest d l
-least-pos d [] = omega arith
-least-pos d (e ∷ l) = omega (arith, least-pos e l)
 
 exact-core : (Ea Eb P p T z : ℕ) → z ≡ 0 → (4 * Ea) * (p * (P - z) * T) + (4 * (Eb * p)) * (P * T) ≡ (4 * (Ea * p)) * (P * T) + (4 * Eb) * (p * (P - z) * T)
 exact-core Ea Eb P p T z h = let e : P - z ≡ P = omega arith in rw e (omega arith)

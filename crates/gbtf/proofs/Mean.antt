@@ -158,6 +158,10 @@ unfolding loose
 loose-less K {m} (here {d = d} {l = l} e) = let z : K * (m * m) % square d ≡ 0 = rw e (mul-mod-left K (m * m)) in rw z (omega (arith, loose-length (K * (m * m)) l))
 loose-less K (there {d = d} {l = l} h) = omega (arith, loose-less K h)
 
+pub least-pos : (d : Direction) (l : List Direction) → 0 < smallest d l
+least-pos d [] = omega arith
+least-pos d (e ∷ l) = omega (arith, least-pos e l)
+
 pub shares-least : (K : ℕ) {m : ℕ} {l : List Direction} → 0 < m → Attained m l → K ≤ shares K m l
 shares-least K {m} p (here {d = d} {l = l} e) = let z : share K m (t d) ≡ K = rw e (mul-div-cancel K (mul-pos p p)) in omega arith
 shares-least K p (there {d = d} {l = l} h) = omega (arith, shares-least K p h)

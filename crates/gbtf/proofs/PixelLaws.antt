@@ -3,7 +3,7 @@ use mathlib.Core.Path.{_≡_, _∙_, ap, ap₂}
 use mathlib.Core.Bool.{Bool, true, false}
 use mathlib.Core.List.{List, [], _∷_}
 use Prim.Native.Nat.{ℕ, _+_, _*_, _/_, _^_, _≤_, _<_, min, max}
-use native.Mathlib.Nat.{le-refl, le-trans, lt-of-le-of-lt, mul-le-mul, mul-le-mul-left, mul-pos, div-le-of-le-mul, mul-div-cancel}
+use native.Mathlib.Nat.{le-refl, le-trans, lt-of-le-of-lt, mul-le-mul, mul-le-mul-left, mul-le-mul-right, mul-pos, div-le-of-le-mul, mul-div-cancel}
 use native.Mathlib.Omega.{arith}
 use lib.Dec.{lit<}
 use lib.IntN.{ℤ, pos, negℤ, natAbs, _+ℤ_, _-ℤ_, _*ℤ_}
@@ -68,9 +68,14 @@ pub fusion-five : (N : ℤ) (S : ℕ) → fusion N S 5 ≡ floorDiv (pos 8 *ℤ 
 unfolding fusion
 fusion-five N S = let e : 2 * (5 * S) ≡ 10 * S = omega arith in rw e
 
-pub fusion-within : (N : ℤ) {S T : ℕ} → natAbs N ≤ 1125899906842624 → T ≤ 128 → S ≤ 536870912 → natAbs (fusion N S T) ≤ 9007267974217728
-unfolding fusion
-fusion-within N {S} {T} h g k = le-trans (floor-within (pos 8 *ℤ N +ℤ pos (T * S)) (2 * (T * S))) (within {w = w64} (lit 8 ⊗ int N 1125899906842624 h ⊕ nat (T * S) 68719476736 (mul-le-mul g k)))
+-- N is a sum of S five-sums, each within 2097152: the quotient is within 16777216
+module _ (N : ℤ) (S T : ℕ) (hN : natAbs N ≤ 2097152 * S) (hS : 0 < S) (hT : 0 < T) where
+  pub dividend-within : natAbs (pos 8 *ℤ N +ℤ pos (T * S)) ≤ 16777216 * (2 * (T * S))
+  dividend-within = le-trans (within {w = w64} (lit 8 ⊗ int N (2097152 * S) hN ⊕ nat (T * S) (T * S) (le-refl _))) (omega (arith, mul-le-mul-right S hT))
+
+  pub fusion-within : natAbs (fusion N S T) ≤ 16777216
+  unfolding fusion
+  fusion-within = floor-within (pos 8 *ℤ N +ℤ pos (T * S)) (2 * (T * S)) 16777216 (omega (arith, mul-pos hT hS)) dividend-within
 
 -- ---- 64 bits, at the share scales 2^27 and 2^24
 fitting-to : (K B : ℕ) (d : Direction) → natAbs (d .differences) ≤ 2097152 → d .gradients ≤ B → 4 ≤ B → K * (B * B) < 18446744073709551616 → Fitting K d

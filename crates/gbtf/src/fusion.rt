@@ -2,6 +2,7 @@ ghost use mathlib.Core.Path.{_≡_};
 ghost use mathlib.Core.List.{_∷_, []};
 ghost use Prim.Native.Nat.{_*_, _≤_, _<_, min};
 ghost use lib.IntN.{pos, natAbs, _+ℤ_, _*ℤ_};
+ghost use Rattle.whole.specs.Floor.{floorDiv};
 ghost use Rattle.gbtf.specs.Direction.{t};
 ghost use Rattle.gbtf.specs.Fusion.{smallest, share, fusion, green, Fitting};
 use crate::direction::Direction;
@@ -45,7 +46,7 @@ fn share_of(k: u64, m: u64, d: Direction) -> u64
 // A direction's five-sum by its share.
 fn shared(q: u64, d: Direction) -> i64
     requires { ⌜ (q ≤ 134217728) × (natAbs (d .differences) ≤ 2097152) ⌝ }
-    ensures { λ r. ⌜ (r ≡ pos q *ℤ d .differences) × (natAbs r ≤ 281474976710656) ⌝ }
+    ensures { λ r. ⌜ (r ≡ pos q *ℤ d .differences) × (natAbs r ≤ 2097152 * q) ⌝ }
 {
     q as i64 * d.differences
 }
@@ -58,13 +59,25 @@ fn raised(n: i64, h: u64) -> i64
     8 * n + h as i64
 }
 
+// The floor of x / d, for a quotient within `lift`: x and as many divisors are a natural, and a quotient of naturals is rounded down.
+// A signed division would round towards zero.
+fn floor(x: i64, d: u64, lift: u64) -> i32
+    requires { ⌜ (0 < d) × (d ≤ 137438953472) × (lift ≤ 16777216) × (natAbs x ≤ lift * d) ⌝ }
+    ensures { λ f. ⌜ f ≡ floorDiv x d ⌝ }
+{
+    ((x + (lift * d) as i64) as u64 / d) as i32 - lift as i32
+}
+
+// Fusion's quotient is within this: 8n is within 16777216 s, the divisor is at least 2 s, and what is added to 8n is half the divisor.
+const LIFT: u64 = 16777216;
+
 // What fusion adds to 16c: n the sum of shares times five-sums, s the sum of shares, and the weights' total.
-fn fusion(n: i64, s: u64, total: u64) -> i64
-    requires { ⌜ (natAbs n ≤ 1125899906842624) × (total ≤ 128) × (s ≤ 536870912) ⌝ }
+fn fusion(n: i64, s: u64, total: u64) -> i32
+    requires { ⌜ (0 < s) × (s ≤ 536870912) × (natAbs n ≤ 2097152 * s) × (0 < total) × (total ≤ 128) ⌝ }
     ensures { λ f. ⌜ f ≡ fusion n s total ⌝ }
 {
     let ts = total * s;
-    whole::div_floor(raised(n, ts), 2 * ts)
+    floor(raised(n, ts), 2 * ts, LIFT)
 }
 
 // Green in units at a red or blue pixel of reading c, at share scale k, with the weights' total.
@@ -77,7 +90,7 @@ pub fn green(
     north: Direction,
     south: Direction,
 ) -> u16
-    requires { ⌜ (0 < k) × (k ≤ 134217728) × (total ≤ 128) ⌝ }
+    requires { ⌜ (0 < k) × (k ≤ 134217728) × ((0 < total) × (total ≤ 128)) ⌝ }
     requires { ⌜ (Fitting k east) × (Fitting k west) × (Fitting k north) × (Fitting k south) ⌝ }
     ensures { λ g. ⌜ g ≡ green k total c east (west ∷ north ∷ south ∷ []) ⌝ }
 {
@@ -87,5 +100,5 @@ pub fn green(
     let n = share_of(k, m, north);
     let s = share_of(k, m, south);
     let a = shared(e, east) + shared(w, west) + (shared(n, north) + shared(s, south));
-    whole::clamp((16 * (c as u64)) as i64 + fusion(a, e + w + n + s, total))
+    whole::clamp((16 * (c as u32)) as i32 + fusion(a, e + w + n + s, total))
 }

@@ -10,11 +10,9 @@ use lib.Seq.{getD-take, getD-drop}
 use Rattle.bayer.specs.declared.frame.Frame.{Frame}
 use Rattle.bayer.specs.Mirror.{mirror}
 use Rattle.bayer.specs.View.{rowOf}
-use Rattle.gbtf.specs.Direction.{direction, directionSum, fiveSum}
-use Rattle.gbtf.specs.Fusion.{Fitting}
-use Rattle.gbtf.proofs.PixelLaws.{difference-within, gradient-within, direction-sum-within, five-sum-within, fitting}
-use Rattle.green_rows.specs.Table.{table, joined}
-use Rattle.gbtf.specs.Weights.{scale, evenWeights}
+use Rattle.gbtf.specs.Direction.{directionSum}
+use Rattle.gbtf.proofs.PixelLaws.{difference-within, gradient-within, direction-sum-within}
+use Rattle.green_rows.specs.Table.{table, joined, part}
 use Rattle.green_rows.specs.Buffer.{differenceIn, gradientIn, windowIn, isOdd, AllAtMost, AllWithin}
 use Rattle.green_rows.specs.Extended.{extendedRow}
 use Rattle.green_rows.proofs.TableLaws.{table-all}
@@ -24,15 +22,18 @@ module _ {A : Type 0} (P : A → Type 0) (d : A) (past : P d) where
   abbrev All : List A → Type 0
   All l = (k : ℕ) → P (getD l k d)
 
-  pub all-take : (n : ℕ) (l : List A) → All l → All (take n l)
+  all-take : (n : ℕ) (l : List A) → All l → All (take n l)
   all-take n l h k =
       elim (decLe (suc k) n) [
         | yes g ↦ subst P (sym (getD-take n l k d g)) (h k)
         | no g ↦ subst P (sym (List·getD-eq-default (take n l) d {n = k} (rw (length-take n l) (omega arith)))) past
       ]
 
-  pub all-drop : (n : ℕ) (l : List A) → All l → All (drop n l)
+  all-drop : (n : ℕ) (l : List A) → All l → All (drop n l)
   all-drop n l h k = subst P (sym (getD-drop n l k d)) (h (n + k))
+
+  pub all-part : (a n : ℕ) (l : List A) → All l → All (part a n l)
+  all-part a n l h = all-take n (drop a l) (all-drop a l h)
 
   pub all-append : (xs ys : List A) → All xs → All ys → All (xs ++ ys)
   all-append [] ys h g k = g k
@@ -47,7 +48,7 @@ module _ {A : Type 0} (P : A → Type 0) (d : A) (past : P d) where
 -- ---- rows of readings
 pub row-at-most : (w i : ℕ) (rows : List ℕ) {m : ℕ} → AllAtMost m rows → AllAtMost m (rowOf w i rows)
 unfolding rowOf
-row-at-most w i rows {m} h = all-take (λ x. x ≤ m) 0 (omega arith) w _ (all-drop (λ x. x ≤ m) 0 (omega arith) (i * w) rows h)
+row-at-most w i rows {m} h = all-part (λ x. x ≤ m) 0 (omega arith) (i * w) w rows h
 
 pub extended-at-most : (f : Frame) (first : ℕ) (rows : List ℕ) (v s n : ℕ) {m : ℕ} → AllAtMost m rows → AllAtMost m (joined (extendedRow f first rows v s) n)
 extended-at-most f first rows v s n {m} h =
@@ -63,8 +64,6 @@ pub gradients-at-most : (step : ℕ) (d : List ℤ) (n : ℕ) → AllWithin 1638
 gradients-at-most step d n h =
     table-all (λ g. g ≤ 32760) (gradientIn step d) n (omega arith) (λ k _. gradient-within (getD d k (pos 0)) (getD d (k + 2 * step) (pos 0)) (h k) (h (k + 2 * step)))
 
--- ---- five differences, at the places that `at` gives, and a window of gradients keep inside 64 bits
-pub fitting-in : (d : List ℤ) (g : List ℕ) (at : ℕ → ℕ) (s q : ℕ) → AllWithin 16380 d → AllAtMost 32760 g
-    → Fitting scale (direction (fiveSum evenWeights (λ k. getD d (at k) (pos 0))) (directionSum (windowIn s g q)))
-fitting-in d g at s q h k =
-    fitting _ (five-sum-within evenWeights (λ i. getD d (at i) (pos 0)) (λ i. h (at i))) (direction-sum-within (k _) (k _) (k _) (k _) (k _) (k _) (k _) (k _) (k _))
+-- ---- the sum of a window of gradients
+pub window-at-most : (g : List ℕ) (s q : ℕ) → AllAtMost 32760 g → directionSum (windowIn s g q) ≤ 294840
+window-at-most g s q k = direction-sum-within (k _) (k _) (k _) (k _) (k _) (k _) (k _) (k _) (k _)

@@ -33,7 +33,7 @@ test : table (block is) 4 ≡ table (block shall) 4
 unfolding colours colourAt
 test = refl
 
-odd-by : (a b : ℕ) → a % 2 ≡ b % 2 → isOdd a ≡ isOdd b
+pub odd-by : (a b : ℕ) → a % 2 ≡ b % 2 → isOdd a ≡ isOdd b
 odd-by a b e = ap (λ n. eqb n 1) e
 
 odd-bit : (n : ℕ) → n < 2 → n ≡ cond (eqb n 1) 1 0
@@ -61,6 +61,13 @@ turned-parity v q = omega arith
 -- column 0 of row v
 starts-is : (l v : ℕ) → l ≤ 3 → startsGreen l v ≡ (v + 0 + corner l) % 2
 starts-is l v h = ap (λ t. cond t 1 0) (cell-green l v 0 h) ∙ sym (odd-bit ((v + 0 + corner l) % 2) (omega arith))
+
+-- and of row v + i
+pub starts-next : (l v i : ℕ) → l ≤ 3 → startsGreen l (v + i) ≡ (startsGreen l v + i) % 2
+starts-next l v i h = rw (starts-is l (v + i) h, starts-is l v h) (sum v i (corner l))
+  where
+    sum : (v i c : ℕ) → (v + i + 0 + c) % 2 ≡ ((v + 0 + c) % 2 + i) % 2
+    sum v i c = omega arith
 
 -- the cell at row n − b and column k − c
 pub place-green : (l H W v n b k c o : ℕ) → l ≤ 3 → Reflected H (subℕ n b) → Reflected W (subℕ k c) → o % 2 ≡ (v + startsGreen l v + n + b + k + c) % 2

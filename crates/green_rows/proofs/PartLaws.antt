@@ -1,12 +1,13 @@
 -- Parts of a list, as the code takes them to lend to calls. Assumes nothing.
-use Prim.Native.Nat.{ℕ, _+_, _-_, _*_, _≤_}
-use mathlib.Core.List.{List, _++_, append-nil}
-use mathlib.Core.Path.{_≡_}
+use Prim.Native.Nat.{ℕ, zero, suc, _+_, _-_, _*_, _≤_, _<_}
+use mathlib.Core.List.{List, [], _∷_, _++_, append-nil}
+use mathlib.Core.Path.{_≡_, refl, ap, _∙_}
 use native.Mathlib.Nat.{add-sub-cancel-left}
 use native.Mathlib.Omega.{arith}
-use lib.ListN.{length, take, drop, length-append, length-drop, drop-of-length-le}
-use lib.Seq.{length-take-le, take-all, take-at, drop-at}
+use lib.ListN.{length, take, drop, getD, length-append, length-drop, drop-of-length-le}
+use lib.Seq.{length-take-le, take-all, take-at, drop-at, take-take, drop-drop, getD-take, getD-drop}
 use Rattle.bayer.specs.View.{rowOf}
+use Rattle.green_rows.specs.Table.{part}
 
 module _ {A : Type 0} where
   -- k entries from the a-th on
@@ -25,6 +26,21 @@ module _ {A : Type 0} where
   put-rest n p q r h =
       let l : length q ≤ length (p ++ q) - n = rw (length-append p q) (omega arith) in
       rw (take-at p q n h, drop-at p q n h, drop-of-length-le q l, append-nil r)
+
+  -- by its entries
+  pub getD-part : (a k : ℕ) (l : List A) (j : ℕ) (d : A) → j < k → getD (part a k l) j d ≡ getD l (a + j) d
+  getD-part a k l j d h = getD-take k (drop a l) j d h ∙ getD-drop a l j d
+
+  -- a part that lies among the first n
+  part-take : (a k n : ℕ) (l : List A) → a + k ≤ n → part a k (take n l) ≡ part a k l
+  part-take zero k n l h = take-take k n l (omega arith)
+  part-take (suc a) k zero l h = absurd (let z : ⊥ = omega arith in z)
+  part-take (suc a) k (suc n) [] h = refl
+  part-take (suc a) k (suc n) (x ∷ l) h = part-take a k n l (omega arith)
+
+  -- a part of a part
+  pub part-part : (a k b n : ℕ) (l : List A) → a + k ≤ n → part a k (part b n l) ≡ part (b + a) k l
+  part-part a k b n l h = part-take a k n (drop b l) h ∙ ap (take k) (drop-drop a b l)
 
 -- row j of those that are w wide
 pub row-is : (w j : ℕ) (rows : List ℕ) {k : ℕ} → k ≡ j → take (k * w + w - k * w) (drop (k * w) rows) ≡ rowOf w j rows

@@ -67,7 +67,7 @@ gradient-along step d k D p b e f =
     ap₂ gradient (e ∙ ap D (sym (behind p b 1))) (f ∙ ap D (ap (λ n. subℕ n b) c ∙ sym (ahead (p + 1) b 1)))
 
 -- five-sums of the same five
-five-same : (ws : List ℕ) (D E : ℕ → ℤ) → ((k : ℕ) → k ≤ 4 → D k ≡ E k) → fiveSum ws D ≡ fiveSum ws E
+pub five-same : (ws : List ℕ) (D E : ℕ → ℤ) → ((k : ℕ) → k ≤ 4 → D k ≡ E k) → fiveSum ws D ≡ fiveSum ws E
 five-same ws D E h = rw (h 0 (lit≤ tt), h 1 (lit≤ tt), h 2 (lit≤ tt), h 3 (lit≤ tt), h 4 (lit≤ tt))
 
 -- three gradients from place q on, in a row whose places are n − c
@@ -99,7 +99,7 @@ window-at s g G q p b n c read = λ t. top t ∷ middle t ∷ low t ∷ []
     low : threeIn g (q + 2 * s) ≡ threeFrom (G (subℕ p b +ℤ pos 2)) (subℕ n c)
     low = three-at g (G (subℕ p b +ℤ pos 2)) (q + 2 * s) n c (λ e h. read 2 e (lit≤ tt) h ∙ ap (λ z. G z (subℕ (n + e) c)) (sym (ahead p b 2)))
 
-odd-row : (r s : ℕ) → s % 2 ≡ 1 → (r * s) % 2 ≡ r % 2
+pub odd-row : (r s : ℕ) → s % 2 ≡ 1 → (r * s) % 2 ≡ r % 2
 odd-row r s h = let t : s ≡ s / 2 * 2 + 1 = omega (arith, div-add-mod' s 2) in rw t (parity r (s / 2))
   where
     parity : (r t : ℕ) → (r * (t * 2 + 1)) % 2 ≡ r % 2

@@ -1,15 +1,16 @@
 -- Laws of `floorDiv` and `clamp`. The floor f of z / d is the only one with f d ≤ z < (f + 1) d. Assumes nothing.
-use mathlib.Core.Path.{_≡_, refl, sym}
-use Prim.Native.Nat.{ℕ, suc, _+_, _*_, _≤_, _<_}
-use native.Mathlib.Nat.{div-add-mod', mod-lt, mul-pos, mul-le-mul-left, mul-le-mul-right, mul-lt-mul-of-pos-left, div-le-self}
+use mathlib.Core.Path.{_≡_, refl, sym, _∙_, ap}
+use Prim.Native.Nat.{ℕ, suc, _+_, _*_, _-_, _/_, _≤_, _<_}
+use native.Mathlib.Nat.{div-add-mod', mod-lt, mul-pos, mul-le-mul-left, mul-le-mul-right, mul-lt-mul-of-pos-left, div-le-of-le-mul}
 use native.Mathlib.Decide.{decLe}
 use native.Mathlib.Omega.{arith}
-use lib.IntN.{ℤ, pos, negsuc, natAbs, _*ℤ_}
+use lib.IntN.{ℤ, pos, negsuc, natAbs, _+ℤ_, _-ℤ_, _*ℤ_}
 use lib.Signed.{shrZ}
 use Rattle.whole.specs.Parts.{up, down}
 use Rattle.whole.specs.Floor.{floorDiv}
 use Rattle.whole.specs.Clamp.{clamp}
-use Rattle.whole.proofs.Pairs.{anyₚ, eq-by, up-times, down-times}
+use Rattle.whole.proofs.Pairs.{anyₚ, natₚ, _+ₚ_, _-ₚ_, eq-by, eq-of, abs-by, up-times, down-times, +ℤ-up}
+use Rattle.whole.proofs.Magnitudes.{up-le, down-le}
 
 pub floor-low : (z : ℤ) (d : ℕ) → 0 < d → up (floorDiv z d) * d + down z ≤ up z + down (floorDiv z d) * d
 floor-low (pos n) d h = omega (arith, div-add-mod' n d)
@@ -37,9 +38,32 @@ floor-unique z f d h l u =
 pub floor-times : (c : ℕ) (z : ℤ) (d : ℕ) → 0 < c → 0 < d → floorDiv (pos c *ℤ z) (c * d) ≡ floorDiv z d
 floor-times c z d hc hd = sym (floor-unique (pos c *ℤ z) (floorDiv z d) (c * d) (mul-pos hc hd) (rw (up-times c z, down-times c z) (omega (arith, mul-le-mul-left c (floor-low z d hd)))) (rw (up-times c z, down-times c z) (omega (arith, mul-lt-mul-of-pos-left (floor-high z d hd) hc))))
 
-pub floor-within : (x : ℤ) (d : ℕ) → natAbs (floorDiv x d) ≤ natAbs x
-floor-within (pos n) d = div-le-self n d
-floor-within (negsuc n) d = omega (arith, div-le-self n d)
+-- k times the divisor, added, raises the floor by k
+pub floor-lift : (x : ℤ) (k d : ℕ) → 0 < d → floorDiv (x +ℤ pos (k * d)) d ≡ floorDiv x d +ℤ pos k
+floor-lift x k d h =
+    let f = floorDiv x d in
+    let e = ap (λ n. n * d) (+ℤ-up f (pos k)) in
+    sym (floor-unique (x +ℤ pos (k * d)) (f +ℤ pos k) d h (omega (arith, e, +ℤ-up x (pos (k * d)), floor-low x d h)) (omega (arith, e, +ℤ-up x (pos (k * d)), floor-high x d h)))
+
+-- how code divides, for a quotient within k: lifted by k divisors, x is a natural
+module _ (x : ℤ) (d k : ℕ) (pos-d : 0 < d) (h : natAbs x ≤ k * d) where
+  abbrev pub lifted : ℕ
+  lifted = up x + k * d - down x
+
+  pub lifted-is : x +ℤ pos (k * d) ≡ pos lifted
+  lifted-is = eq-by (anyₚ x +ₚ natₚ (k * d)) (natₚ lifted) (omega (arith, down-le x (k * d) h))
+
+  pub quotient-le : lifted / d ≤ 2 * k
+  quotient-le = div-le-of-le-mul d (omega (arith, up-le x (k * d) h))
+
+  -- and its quotient, lowered by k, is the floor
+  pub lowered-is : pos (lifted / d) -ℤ pos k ≡ floorDiv x d
+  lowered-is =
+      let e : pos (lifted / d) ≡ floorDiv x d +ℤ pos k = ap (λ z. floorDiv z d) (sym lifted-is) ∙ floor-lift x k d pos-d in
+      eq-by (natₚ (lifted / d) -ₚ natₚ k) (anyₚ (floorDiv x d)) (omega (arith, eq-of (natₚ (lifted / d)) (anyₚ (floorDiv x d) +ₚ natₚ k) e))
+
+  pub floor-within : natAbs (floorDiv x d) ≤ k
+  floor-within = omega (arith, ap natAbs lowered-is, abs-by (natₚ (lifted / d) -ₚ natₚ k), quotient-le)
 
 -- the shift that copies the sign bit, `x >> k`, rounds down
 pub shr-floor : (z : ℤ) (d : ℕ) → shrZ z d ≡ floorDiv z d

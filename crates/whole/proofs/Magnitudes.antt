@@ -8,6 +8,7 @@ use lib.IntN.{ℤ, pos, negsuc, negℤ, subℕ, natAbs, _+ℤ_, _-ℤ_, _*ℤ_}
 use lib.Signed.{mag}
 use mir.Syntax.{Width}
 use mir.Val.{SFits, hbits}
+use Rattle.whole.specs.Parts.{up, down}
 use Rattle.whole.proofs.Pairs.{sub-ind}
 
 abs-sub : (a b : ℕ) → natAbs (subℕ a b) ≤ a + b
@@ -42,6 +43,15 @@ sub-within x y h k = omega (arith, abs-minus x y)
 
 pub mul-within : (x y : ℤ) {m k : ℕ} → natAbs x ≤ m → natAbs y ≤ k → natAbs (x *ℤ y) ≤ m * k
 mul-within x y {m} {k} h g = le-trans (le-of-eq (abs-mul x y)) (mul-le-mul h g)
+
+-- on both sides of 0
+pub up-le : (z : ℤ) (B : ℕ) → natAbs z ≤ B → up z ≤ B
+up-le (pos n) B h = h
+up-le (negsuc n) B h = omega arith
+
+pub down-le : (z : ℤ) (B : ℕ) → natAbs z ≤ B → down z ≤ B
+down-le (pos n) B h = omega arith
+down-le (negsuc n) B h = h
 
 -- the range of a signed type
 pub mag-le-abs : (x : ℤ) → mag x ≤ natAbs x

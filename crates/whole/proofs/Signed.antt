@@ -10,7 +10,7 @@
 use mathlib.Core.Path.{_≡_, refl, sym, _∙_, ap, ap₂, subst}
 use mathlib.Core.Bool.{Bool, true, false, _&&_}
 use Prim.Native.Nat.{ℕ, zero, suc, _+_, _*_, _^_, _<_, _≤_}
-use native.Mathlib.Nat.{le-trans, lt-of-le-of-lt, le-refl, le-of-eq, zero-add}
+use native.Mathlib.Nat.{le-trans, lt-of-le-of-lt, le-refl, le-of-eq}
 use native.Mathlib.Omega.{arith}
 use borrow.Author.Tests.{ltb-true}
 use lib.Dec.{T, ltb, ltb→lt, lit<}
@@ -19,7 +19,7 @@ use lib.IntN.{ℤ, pos, negsuc, natAbs, _+ℤ_, _-ℤ_, _*ℤ_}
 use mir.Syntax.{Width, w32, w64}
 use mir.Val.{Fits, SFits, hbits, ofZ, toZ}
 use mir.ValLaws.{toZ-pos, toZ-ofZ}
-use Rattle.whole.proofs.Pairs.{sub-pos, sub-neg}
+use Rattle.whole.proofs.Pairs.{sub-pos}
 use Rattle.whole.specs.Floor.{floorDiv}
 use Rattle.whole.proofs.FloorLaws.{shr-floor}
 use Rattle.whole.proofs.Magnitudes.{add-within, sub-within, mul-within, fits-within, abs-of-fits}
@@ -191,13 +191,9 @@ read-nonneg {w} {z} f e = toZ-ofZ w z f ∙ is-nonneg f e
 pub to-unsigned : {w : Width} {z : ℤ} (n : ℕ) → z ≡ pos n → n < 2 ^ mir.Val.bits w → T (nonNeg z) × Fits w (natAbs z)
 to-unsigned {w} n e h = (subst (λ u. T (nonNeg u)) (sym e) tt, subst (λ u. Fits w (natAbs u)) (sym e) (record { fits = h }))
 
--- −1 − x takes a negative number to a natural, and back
+-- −1 − x takes a negative number to a natural
 pub less-negsuc : (n : ℕ) → negsuc 0 -ℤ negsuc n ≡ pos n
 less-negsuc n = sub-pos (suc n) 1 n (omega arith)
-
-pub less-pos : (n : ℕ) → negsuc 0 -ℤ pos n ≡ negsuc n
-less-pos zero = sub-neg 0 1 0 refl
-less-pos (suc n) = ap (λ (k : ℕ). negsuc (suc k)) (zero-add n)
 
 -- the code's −1 − x, where a test said that x is below zero
 pub turned : {w : Width} {z : ℤ} → SFits w z → ltZ (toZ w (ofZ w z)) (pos 0) ≡ true → negsuc 0 -ℤ toZ w (ofZ w z) ≡ pos (mag z)

@@ -1,6 +1,11 @@
 -- `demosaic::fill::colour_difference` meets its contract. Assumes nothing.
+use Prim.Native.Nat.{_*_}
+use native.Mathlib.Nat.{le-trans, le-of-eq}
 use native.Mathlib.Omega.{arith}
+use mathlib.Core.Path.{ap}
+use lib.IntN.{natAbs}
 use mir.Syntax.{w32}
+use Rattle.whole.proofs.Pairs.{natₚ, _-ₚ_, within-by}
 use Rattle.whole.proofs.Signed.{E, lit, nat, _⊖_, _⊗_, asked, value}
 use borrow.Author.Needs.{needs}
 use Rattle.demosaic.proofs.fill.colour_difference.Statement.{statement}
@@ -25,7 +30,7 @@ sub-result : tie.Need-sub-result
 sub-result c = asked (less c) tt
 
 returns : tie.Need-returns
-returns c = value (less c) tt
+returns c = let e = value (less c) tt in (e, le-trans (le-of-eq (ap natAbs e)) (within-by (natₚ (c .args .green) -ₚ natₚ (16 * c .args .reading)) (omega arith) (omega arith)))
 
 pub colour-difference-spec : {M : Type 1} → statement M
 colour-difference-spec = tie.close (tie.spec cast-result cast-result-2 mul-result sub-result returns)

@@ -1,17 +1,15 @@
 -- `demosaic::fill::lifted` meets its contract. Assumes nothing.
-use native.Mathlib.Omega.{arith}
-use mir.Syntax.{w64}
-use Rattle.whole.proofs.Signed.{E, nat, int, _⊕_, _⊖_, asked, value}
-use Rattle.whole.proofs.Signed.{bounded}
+use mir.Syntax.{w32}
+use Rattle.whole.proofs.Signed.{E, nat, int, _⊕_, _⊖_, asked, value, bounded}
 use borrow.Author.Needs.{needs}
 use Rattle.demosaic.proofs.fill.lifted.Statement.{statement}
 use Rattle.demosaic.proofs.fill.lifted.Tie as tie
 
-abbrev less : tie.Start → E w64
-less c = nat (c .args .n) 4294967296 (omega arith) ⊖ int (c .args .sum) 8589934592 (c .pre)
+abbrev less : tie.Start → E w32
+less c = nat (c .args .n) 262140 (c .pre .0) ⊖ int (c .args .sum) 4194240 (c .pre .1)
 
-abbrev lifted : tie.Start → E w64
-lifted c = less c ⊕ nat (c .args .half) 4294967296 (omega arith)
+abbrev lifted : tie.Start → E w32
+lifted c = less c ⊕ nat (c .args .half) 2 (c .pre .2)
 
 cast-result : tie.Need-cast-result
 cast-result c = search needs

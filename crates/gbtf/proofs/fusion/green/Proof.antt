@@ -1,19 +1,21 @@
 -- `gbtf::fusion::green` meets its contract: it adds up in another order than the definition. Assumes nothing.
-use Prim.Native.Nat.{ℕ, _+_, _*_, _≤_, min}
+use Prim.Native.Nat.{ℕ, _+_, _*_, _≤_, _<_, min}
 use native.Mathlib.Nat.{le-trans, le-of-eq}
 use native.Mathlib.Omega.{arith}
 use mathlib.Core.List.{[], _∷_}
 use mathlib.Core.Path.{_≡_, _∙_, ap, ap₂}
 use lib.IntN.{ℤ, pos, natAbs, _+ℤ_, _*ℤ_}
-use mir.Syntax.{w64}
+use mir.Syntax.{w32, w64}
+use mir.Val.{toZ}
 use Rattle.whole.specs.Clamp.{clamp}
-use Rattle.whole.proofs.Signed.{E, nat, int, _⊕_, asked, value}
+use Rattle.whole.proofs.Signed.{E, nat, int, _⊕_, val, bits, asked, value}
 use Rattle.gbtf.specs.declared.direction.Direction.{Direction}
 use Rattle.gbtf.specs.Direction.{t}
 use Rattle.gbtf.specs.Fusion.{smallest, share, fusion, green}
-use Rattle.whole.proofs.Signed.{bounded}
+use Rattle.whole.proofs.Magnitudes.{add-within}
 use Rattle.whole.proofs.Pairs.{four-terms}
 use Rattle.gbtf.proofs.PixelLaws.{fusion-within}
+use Rattle.gbtf.proofs.Mean.{attained, least-pos, shares-least}
 use borrow.Author.Needs.{needs}
 use Rattle.gbtf.proofs.fusion.green.Statement.{statement}
 use Rattle.gbtf.proofs.fusion.green.Tie as tie
@@ -25,17 +27,56 @@ below : (c : tie.After-smallest) → let a = c .before .args in let m = c .small
 below c = least _ _ _ _ (c .smallest .ensures)
 
 abbrev two : tie.After-shared2 → E w64
-two c = int (c .before .shared .result) 281474976710656 (c .before .shared .ensures .1) ⊕ int (c .shared2 .result) 281474976710656 (c .shared2 .ensures .1)
+two c = int (c .before .shared .result) 281474976710656 (omega (arith, c .before .shared .ensures .1)) ⊕ int (c .shared2 .result) 281474976710656 (omega (arith, c .shared2 .ensures .1))
 
 abbrev others : tie.After-shared4 → E w64
-others c = int (c .before .shared3 .result) 281474976710656 (c .before .shared3 .ensures .1) ⊕ int (c .shared4 .result) 281474976710656 (c .shared4 .ensures .1)
+others c = int (c .before .shared3 .result) 281474976710656 (omega (arith, c .before .shared3 .ensures .1)) ⊕ int (c .shared4 .result) 281474976710656 (omega (arith, c .shared4 .ensures .1))
 
 abbrev four : tie.After-shared4 → E w64
 four c = two (c .before .before) ⊕ others c
 
-abbrev units : tie.After-fusion → E w64
-units c = nat (16 * c .before .before .before .before .before .before .before .before .before .before .args .c) 1048560 (omega arith)
-    ⊕ int (c .fusion .result) 9007267974217728 (le-trans (le-of-eq (ap natAbs (c .fusion .ensures))) (fusion-within _ (bounded (four (c .before)) tt) (omega arith) (omega arith)))
+-- the sum of the shares is above 0, as the smallest direction has the whole scale
+shares-above : (K : ℕ) (d₁ d₂ d₃ d₄ : Direction) {m q₁ q₂ q₃ q₄ : ℕ} → 0 < K
+    → m ≡ smallest d₁ (d₂ ∷ d₃ ∷ d₄ ∷ [])
+    → q₁ ≡ share K m (t d₁) → q₂ ≡ share K m (t d₂) → q₃ ≡ share K m (t d₃) → q₄ ≡ share K m (t d₄)
+    → 0 < q₁ + q₂ + q₃ + q₄
+shares-above K d₁ d₂ d₃ d₄ h m p q r s =
+    let l = d₂ ∷ d₃ ∷ d₄ ∷ [] in
+    rw (s, r, q, p, m) (omega (arith, shares-least K (least-pos d₁ l) (attained d₁ l)))
+
+abbrev sum : tie.After-shared4 → ℕ
+sum c =
+    let q₄ = c .before .before .before .before in
+    q₄ .before .before .before .share-of .result + q₄ .before .before .share-of2 .result + q₄ .before .share-of3 .result + q₄ .share-of4 .result
+
+above : (c : tie.After-shared4) → 0 < sum c
+above c =
+    let q₄ = c .before .before .before .before in
+    let q₃ = q₄ .before in
+    let q₂ = q₃ .before in
+    let q₁ = q₂ .before in
+    let m = q₁ .before in
+    let a = m .before .args in
+    shares-above (a .k) (a .east) (a .west) (a .north) (a .south) (m .before .pre .0 .0) (m .smallest .ensures)
+    (q₁ .share-of .ensures .0) (q₂ .share-of2 .ensures .0) (q₃ .share-of3 .ensures .0) (q₄ .share-of4 .ensures .0)
+
+four-within : (c : tie.After-shared4) → natAbs (toZ w64 (bits (four c))) ≤ 2097152 * sum c
+four-within c =
+    let p₃ = c .before in
+    let p₂ = p₃ .before in
+    let p₁ = p₂ .before in
+    le-trans (le-of-eq (ap natAbs (value (four c) tt)))
+    (le-trans
+    (add-within (val (two p₂)) (val (others c))
+    (add-within (p₁ .shared .result) (p₂ .shared2 .result) (p₁ .shared .ensures .1) (p₂ .shared2 .ensures .1))
+    (add-within (p₃ .shared3 .result) (c .shared4 .result) (p₃ .shared3 .ensures .1) (c .shared4 .ensures .1)))
+    (omega arith))
+
+abbrev units : tie.After-fusion → E w32
+units c =
+    let s = c .before .before .before .before .before .before .before .before .before .before in
+    nat (16 * s .args .c) 1048560 (omega arith)
+    ⊕ int (c .fusion .result) 16777216 (le-trans (le-of-eq (ap natAbs (c .fusion .ensures))) (fusion-within (toZ w64 (bits (four (c .before)))) (sum (c .before)) (s .args .total) (four-within (c .before)) (above (c .before)) (s .pre .0 .2 .0)))
 
 green-is : (K T c : ℕ) (d₁ d₂ d₃ d₄ : Direction) {m q₁ q₂ q₃ q₄ : ℕ} {r₁ r₂ r₃ r₄ : ℤ}
     → m ≡ smallest d₁ (d₂ ∷ d₃ ∷ d₄ ∷ [])
@@ -100,7 +141,7 @@ add-fusion-3 : tie.Need-add-fusion-3
 add-fusion-3 c = search needs
 
 fusion-requires : tie.Need-fusion-requires
-fusion-requires c κs = (bounded (four c) tt, omega arith, omega arith)
+fusion-requires c κs = let s = c .before .before .before .before .before .before .before .before .before in (above c, omega arith, four-within c, s .pre .0 .2 .0, s .pre .0 .2 .1)
 
 add-clamp : tie.Need-add-clamp
 add-clamp c = asked (units c) tt

@@ -1,65 +1,64 @@
--- `green_rows::fuse::fuse` meets its contract. Assumes nothing.
-use Prim.Native.Nat.{_-_, _≤_}
+-- `green_rows::fuse::fuse` meets its contract: what is worked out from the sums that the two passes leave is green. Assumes nothing.
 use native.Mathlib.Omega.{arith}
-use mathlib.Core.Path.{refl, _∙_}
+use mathlib.Core.Path.{_∙_}
 use lib.ListN.{length}
-use Rattle.gbtf.specs.Weights.{scale, evenWeights}
-use Rattle.green_rows.specs.Buffer.{greenIn}
-use Rattle.green_rows.proofs.TableLaws.{Filled, table-none, table-turn, table-done}
+use Rattle.green_rows.proofs.DirectionLaws.{row-is, sums-at-most, fives-within}
+use borrow.Author.Needs.{needs}
 use Rattle.green_rows.proofs.fuse.fuse.Statement.{statement}
 use Rattle.green_rows.proofs.fuse.fuse.Tie as tie
 
-abbrev Inv-loop : tie.InvT-loop
-Inv-loop x s odd dh dv gh gv out₀ j₀ out j = (j ≤ length out₀) × Filled (greenIn scale evenWeights s odd x dh dv gh gv) j out₀ out
+-- before the two passes and after each
+abbrev sums : tie.After-row-fives → tie.After-row-sums
+sums c = c .before .before .before .before
 
-abbrev μ-loop : tie.MeasureT-loop
-μ-loop x s odd dh dv gh gv out₀ j₀ out j = length out₀ - j
+abbrev start : tie.After-row-fives → tie.Start
+start c = sums c .before .before .before .before .before .before .before
 
-loop-holds : tie.Need-loop-holds Inv-loop μ-loop
-loop-holds c = (omega arith, (table-none _ _, refl))
+row-sums-requires : tie.Need-row-sums-requires
+row-sums-requires c κs = search needs
 
-pixel-requires : tie.Need-pixel-requires Inv-loop μ-loop
-pixel-requires c κs =
-    let p = c .before .before .before .before .before .before .pre in
-    ((p .0 .0, p .0 .1, omega arith), p .1)
+row-fives-requires : tie.Need-row-fives-requires
+row-fives-requires c κs = search needs
 
-mul-out : tie.Need-mul-out Inv-loop μ-loop
-mul-out c = omega arith
+fuse-row-requires : tie.Need-fuse-row-requires
+fuse-row-requires c κs =
+    let e = c .before .before .before .before in
+    let k = start e in
+    let a = k .args in
+    let p = k .pre .1 .1 .0 in (
+      (k .pre .0 .0, k .pre .0 .1, k .pre .0 .2),
+      (
+        omega arith,
+        omega arith,
+        rw (sums e .row-sums .ensures) (sums-at-most (a .s) (length (a .x .now)) (a .gh .now) (a .gv .now) (p .2) (p .3)),
+        rw (e .row-fives .ensures) (fives-within (a .s) (length (a .x .now)) (a .dh .now) (a .dv .now) (p .0) (p .1)),
+      ),
+    )
 
-slice-write-out : tie.Need-slice-write-out Inv-loop μ-loop
-slice-write-out c = omega arith
+same-length : tie.Need-same-length
+same-length c = search needs
 
-add-j : tie.Need-add-j Inv-loop μ-loop
-add-j c = omega arith
+same-length-2 : tie.Need-same-length-2
+same-length-2 c = search needs
 
-loop-less : tie.Need-loop-less Inv-loop μ-loop
-loop-less c = omega arith
+same-length-3 : tie.Need-same-length-3
+same-length-3 c = search needs
 
-loop-again : tie.Need-loop-again Inv-loop μ-loop
-loop-again c =
-    let l = c .before .before .loop in
-    (omega arith, table-turn _ (l .j) _ (omega arith) (l .inv .1) (c .pixel .ensures))
-
-same-length : tie.Need-same-length Inv-loop μ-loop
-same-length c = omega arith
-
-returns : tie.Need-returns Inv-loop μ-loop
+returns : tie.Need-returns
 returns c =
-    let l = c .before .loop in
-    l .inv .1 .0 ∙ table-done _ (l .j) _ _ (l .inv .0) (omega arith) refl
+    let e = c .before .before .before .before .before .before .before in
+    let k = start e in
+    let a = k .args in
+    c .before .before .fuse-row .ensures ∙ row-is (a .s) (a .odd) (a .x .now) (a .dh .now) (a .dv .now) (a .gh .now) (a .gv .now) _ (k .pre .0 .2) (sums e .row-sums .ensures) (e .row-fives .ensures)
 
 pub fuse-spec : {M : Type 1} → statement M
 fuse-spec =
     tie.close
     (tie.spec
-    Inv-loop
-    μ-loop
-    loop-holds
-    pixel-requires
-    mul-out
-    slice-write-out
-    add-j
-    loop-less
-    loop-again
+    row-sums-requires
+    row-fives-requires
+    fuse-row-requires
     same-length
+    same-length-2
+    same-length-3
     returns)

@@ -1,9 +1,10 @@
 -- `strip::greens::green_beside` meets its contract. Assumes nothing.
-use Prim.Native.Nat.{_-_}
+use Prim.Native.Nat.{_+_, _-_}
 use mathlib.Core.Path.{_≡_, ap, _∙_}
 use native.Mathlib.Omega.{arith}
-use borrow.Author.Needs.{needs}
+use Rattle.green_rows.proofs.TableLaws.{joined-one}
 use Rattle.strip.specs.Rows.{greenRow}
+use borrow.Author.Needs.{needs}
 use Rattle.strip.proofs.greens.green_beside.Statement.{statement}
 use Rattle.strip.proofs.greens.green_beside.Tie as tie
 
@@ -13,11 +14,15 @@ returns c v e h = absurd (omega (arith, c .if1 .taken, e))
 returns-2 : tie.Need-returns-2
 returns-2 c v e h = absurd (omega (arith, c .if2 .taken, e, h))
 
-sub-green-row : tie.Need-sub-green-row
-sub-green-row c = search needs
+sub-green-rows : tie.Need-sub-green-rows
+sub-green-rows c = search needs
 
-green-row-requires : tie.Need-green-row-requires
-green-row-requires c κs = let s = c .before .before .before .before .before .before .before .before .before .before .before in ((s .pre .0 .0 _ (omega arith) (omega arith), s .pre .0 .1, s .pre .0 .2), s .pre .1)
+green-rows-requires : tie.Need-green-rows-requires
+green-rows-requires c κs =
+    let s = c .before .before .before .before .before .before .before .before .before .before .before .before .before .before in
+    let z = s .pre .0 .0 (s .args .u - 1) (omega arith) (omega arith) in
+    let r = s .pre .1 in
+    ((λ i h. s .pre .0 .0 (s .args .u - 1 + i) (omega (arith, h)) (omega (arith, h)), s .pre .0 .1, s .pre .0 .2), ((omega arith, omega (arith, z .row, z .low), z .narrow), (r .0, r .1, r .2, r .3, r .4, omega (arith, r .5))))
 
 same-length : tie.Need-same-length
 same-length c = search needs
@@ -31,11 +36,17 @@ same-length-3 c = search needs
 same-length-4 : tie.Need-same-length-4
 same-length-4 c = search needs
 
+same-length-5 : tie.Need-same-length-5
+same-length-5 c = search needs
+
+same-length-6 : tie.Need-same-length-6
+same-length-6 c = search needs
+
 returns-3 : tie.Need-returns-3
 returns-3 c v e h =
-    let s = c .before .before .before .before .before .before .before .before .before .before .before .before .before .before .before .before .before .before .before in
-    let q : s .args .u - 1 ≡ v = omega (arith, e) in
-    c .before .before .before .before .before .before .before .green-row .ensures ∙ ap (greenRow (s .args .frame) (s .args .start) (s .args .piece .now)) q
+    let s = c .before .before .before .before .before .before .before .before .before .before .before .before .before .before .before .before .before .before .before .before .before .before .before .before .before in
+    let q : s .args .u - 1 + 0 ≡ v = omega (arith, e) in
+    c .before .before .before .before .before .before .before .before .before .before .green-rows .ensures ∙ joined-one _ ∙ ap (greenRow (s .args .frame) (s .args .start) (s .args .piece .now)) q
 
 pub green-beside-spec : {M : Type 1} → statement M
 green-beside-spec =
@@ -43,10 +54,12 @@ green-beside-spec =
     (tie.spec
     returns
     returns-2
-    sub-green-row
-    green-row-requires
+    sub-green-rows
+    green-rows-requires
     same-length
     same-length-2
     same-length-3
     same-length-4
+    same-length-5
+    same-length-6
     returns-3)

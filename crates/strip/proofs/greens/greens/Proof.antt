@@ -1,20 +1,26 @@
 -- `strip::greens::greens` meets its contract. Assumes nothing.
-use mathlib.Core.Path.{refl}
+use native.Mathlib.Omega.{arith}
 use borrow.Author.Needs.{needs}
 use Rattle.strip.proofs.greens.greens.Statement.{statement}
 use Rattle.strip.proofs.greens.greens.Tie as tie
 
-slice-aggregate-greens-with : tie.Need-slice-aggregate-greens-with
-slice-aggregate-greens-with c = search needs
+slice-aggregate-greens-in : tie.Need-slice-aggregate-greens-in
+slice-aggregate-greens-in c = search needs
 
-slice-aggregate-greens-with-2 : tie.Need-slice-aggregate-greens-with-2
-slice-aggregate-greens-with-2 c = search needs
+slice-aggregate-greens-in-2 : tie.Need-slice-aggregate-greens-in-2
+slice-aggregate-greens-in-2 c = search needs
 
-slice-aggregate-greens-with-3 : tie.Need-slice-aggregate-greens-with-3
-slice-aggregate-greens-with-3 c = search needs
+slice-aggregate-greens-in-3 : tie.Need-slice-aggregate-greens-in-3
+slice-aggregate-greens-in-3 c = search needs
 
-greens-with-requires : tie.Need-greens-with-requires
-greens-with-requires c κs = let s = c .before .before .before .before .before .before .before .before .before .before in (s .pre .0, (s .pre .1, (refl, refl, refl)))
+slice-aggregate-greens-in-4 : tie.Need-slice-aggregate-greens-in-4
+slice-aggregate-greens-in-4 c = search needs
+
+slice-aggregate-greens-in-5 : tie.Need-slice-aggregate-greens-in-5
+slice-aggregate-greens-in-5 c = search needs
+
+greens-in-requires : tie.Need-greens-in-requires
+greens-in-requires c κs = let s = c .before .before .before .before .before .before .before .before .before .before .before .before in (s .pre .0, (s .pre .1, (omega arith, omega arith, omega arith, omega arith, omega arith)))
 
 same-length : tie.Need-same-length
 same-length c = search needs
@@ -32,10 +38,12 @@ pub greens-spec : {M : Type 1} → statement M
 greens-spec =
     tie.close
     (tie.spec
-    slice-aggregate-greens-with
-    slice-aggregate-greens-with-2
-    slice-aggregate-greens-with-3
-    greens-with-requires
+    slice-aggregate-greens-in
+    slice-aggregate-greens-in-2
+    slice-aggregate-greens-in-3
+    slice-aggregate-greens-in-4
+    slice-aggregate-greens-in-5
+    greens-in-requires
     same-length
     same-length-2
     same-length-3

@@ -1,0 +1,120 @@
+-- `green_blocks::block::all_differences` meets its contract: one part is the differences along the rows, the other those along the columns. Assumes nothing.
+use Prim.Native.Nat.{ℕ, _+_, _-_, _*_}
+use native.Mathlib.Omega.{arith}
+use mathlib.Core.List.{List, _++_}
+use mathlib.Core.Path.{_≡_, ap, _∙_}
+use lib.IntN.{ℤ}
+use lib.ListN.{length, take, drop}
+use Rattle.green_rows.specs.Table.{table, part}
+use Rattle.green_rows.specs.Buffer.{differenceIn}
+use Rattle.green_rows.proofs.TableLaws.{length-table}
+use Rattle.green_rows.proofs.PartLaws.{put-rest}
+use Rattle.green_blocks.proofs.block.all_differences.Statement.{statement}
+use Rattle.green_blocks.proofs.block.all_differences.Tie as tie
+
+mul-at : tie.Need-mul-at
+mul-at c = omega arith
+
+sub-at : tie.Need-sub-at
+sub-at c = omega arith
+
+mul-end : tie.Need-mul-end
+mul-end c = omega arith
+
+add-end : tie.Need-add-end
+add-end c = omega arith
+
+add-end-2 : tie.Need-add-end-2
+add-end-2 c = omega arith
+
+mul-rows : tie.Need-mul-rows
+mul-rows c = omega arith
+
+add-rows : tie.Need-add-rows
+add-rows c = omega arith
+
+mul-differences : tie.Need-mul-differences
+mul-differences c = omega arith
+
+sub-differences : tie.Need-sub-differences
+sub-differences c = omega arith
+
+part-differences-start : tie.Need-part-differences-start
+part-differences-start c = omega arith
+
+part-differences-end : tie.Need-part-differences-end
+part-differences-end c = omega arith
+
+sub-differences-2 : tie.Need-sub-differences-2
+sub-differences-2 c = omega arith
+
+part-differences-start-2 : tie.Need-part-differences-start-2
+part-differences-start-2 c = omega arith
+
+part-differences-end-2 : tie.Need-part-differences-end-2
+part-differences-end-2 c = omega arith
+
+differences-requires : tie.Need-differences-requires
+differences-requires c κs = omega arith
+
+sub-differences-3 : tie.Need-sub-differences-3
+sub-differences-3 c = omega arith
+
+mul-differences-2 : tie.Need-mul-differences-2
+mul-differences-2 c = omega arith
+
+sub-differences-4 : tie.Need-sub-differences-4
+sub-differences-4 c = omega arith
+
+part-differences-start-3 : tie.Need-part-differences-start-3
+part-differences-start-3 c = omega arith
+
+part-differences-end-3 : tie.Need-part-differences-end-3
+part-differences-end-3 c = omega arith
+
+differences-requires-2 : tie.Need-differences-requires-2
+differences-requires-2 c κs = omega arith
+
+same-length : tie.Need-same-length
+same-length c = omega arith
+
+-- what the two calls leave: a of the first n places, e of the others
+whole : (s m n odd k l : ℕ) (x : List ℕ) (q : List ℤ) {a e : List ℤ} {i j : ℕ} → k ≡ l → i ≡ n → j ≡ m
+    → a ≡ table (differenceIn 1 odd (part (5 * s - 2) k x)) i → e ≡ table (differenceIn s (1 - odd) x) j
+    → take n (a ++ q) ++ (e ++ drop (length (a ++ q) - n) (drop n (a ++ q))) ≡ table (differenceIn 1 odd (part (5 * s - 2) l x)) n ++ table (differenceIn s (1 - odd) x) m
+whole s m n odd k l x q {a} {e} h i j p r = put-rest n a q e (ap length p ∙ length-table _ _ ∙ i) ∙ rw (p, r, h, i, j)
+
+returns : tie.Need-returns
+returns c =
+    let e₂ = c .before in
+    let e₁ = e₂ .before .before .before in
+    let a = e₁ .before .before .before .before .args in
+    whole (a .s) (a .m + 8 * a .s) (a .m + 2 * a .s) (a .odd) (a .m + 7 * a .s + 2 - (5 * a .s - 2)) (a .m + 2 * a .s + 4) (a .x .now) _ (omega arith) (omega arith) (omega arith) (e₁ .differences .ensures) (e₂ .differences2 .ensures)
+
+pub all-differences-spec : {M : Type 1} → statement M
+all-differences-spec =
+    tie.close
+    (tie.spec
+    mul-at
+    sub-at
+    mul-end
+    add-end
+    add-end-2
+    mul-rows
+    add-rows
+    mul-differences
+    sub-differences
+    part-differences-start
+    part-differences-end
+    sub-differences-2
+    part-differences-start-2
+    part-differences-end-2
+    differences-requires
+    sub-differences-3
+    mul-differences-2
+    sub-differences-4
+    part-differences-start-3
+    part-differences-end-3
+    differences-requires-2
+    same-length
+    returns)

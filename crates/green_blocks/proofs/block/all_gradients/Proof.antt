@@ -1,0 +1,128 @@
+-- `green_blocks::block::all_gradients` meets its contract: one part is the gradients along the rows, the other those along the columns. Assumes nothing.
+use Prim.Native.Nat.{ℕ, _+_, _-_, _*_}
+use native.Mathlib.Omega.{arith}
+use mathlib.Core.List.{List, _++_}
+use mathlib.Core.Path.{_≡_, ap, _∙_}
+use lib.IntN.{ℤ}
+use lib.ListN.{length, take, drop}
+use Rattle.green_rows.specs.Table.{table, part}
+use Rattle.green_rows.specs.Buffer.{gradientIn}
+use Rattle.green_rows.proofs.TableLaws.{length-table}
+use Rattle.green_rows.proofs.PartLaws.{put-rest}
+use Rattle.green_blocks.proofs.block.all_gradients.Statement.{statement}
+use Rattle.green_blocks.proofs.block.all_gradients.Tie as tie
+
+mul-rows : tie.Need-mul-rows
+mul-rows c = omega arith
+
+add-rows : tie.Need-add-rows
+add-rows c = omega arith
+
+add-at : tie.Need-add-at
+add-at c = omega arith
+
+mul-end : tie.Need-mul-end
+mul-end c = omega arith
+
+add-end : tie.Need-add-end
+add-end c = omega arith
+
+add-end-2 : tie.Need-add-end-2
+add-end-2 c = omega arith
+
+sub-columns : tie.Need-sub-columns
+sub-columns c = omega arith
+
+sub-gradients : tie.Need-sub-gradients
+sub-gradients c = omega arith
+
+part-gradients-start : tie.Need-part-gradients-start
+part-gradients-start c = omega arith
+
+part-gradients-end : tie.Need-part-gradients-end
+part-gradients-end c = omega arith
+
+sub-gradients-2 : tie.Need-sub-gradients-2
+sub-gradients-2 c = omega arith
+
+part-gradients-start-2 : tie.Need-part-gradients-start-2
+part-gradients-start-2 c = omega arith
+
+part-gradients-end-2 : tie.Need-part-gradients-end-2
+part-gradients-end-2 c = omega arith
+
+gradients-requires : tie.Need-gradients-requires
+gradients-requires c κs = omega arith
+
+mul-gradients : tie.Need-mul-gradients
+mul-gradients c = omega arith
+
+sub-gradients-3 : tie.Need-sub-gradients-3
+sub-gradients-3 c = omega arith
+
+part-gradients-start-3 : tie.Need-part-gradients-start-3
+part-gradients-start-3 c = omega arith
+
+part-gradients-end-3 : tie.Need-part-gradients-end-3
+part-gradients-end-3 c = omega arith
+
+mul-gradients-2 : tie.Need-mul-gradients-2
+mul-gradients-2 c = omega arith
+
+sub-gradients-4 : tie.Need-sub-gradients-4
+sub-gradients-4 c = omega arith
+
+part-gradients-start-4 : tie.Need-part-gradients-start-4
+part-gradients-start-4 c = omega arith
+
+part-gradients-end-4 : tie.Need-part-gradients-end-4
+part-gradients-end-4 c = omega arith
+
+gradients-requires-2 : tie.Need-gradients-requires-2
+gradients-requires-2 c κs = omega arith
+
+same-length : tie.Need-same-length
+same-length c = omega arith
+
+-- what the two calls leave: a of the first n places, e of the others
+whole : (s m n k l k′ l′ at to : ℕ) (d : List ℤ) (q : List ℕ) {a e : List ℕ} {i j : ℕ} → k ≡ l → k′ ≡ l′ → at ≡ to → i ≡ n → j ≡ m
+    → a ≡ table (gradientIn 1 (part 0 k d)) i → e ≡ table (gradientIn s (part at k′ d)) j
+    → take n (a ++ q) ++ (e ++ drop (length (a ++ q) - n) (drop n (a ++ q))) ≡ table (gradientIn 1 (part 0 l d)) n ++ table (gradientIn s (part to l′ d)) m
+whole s m n k l k′ l′ at to d q {a} {e} h h′ f i j p r = put-rest n a q e (ap length p ∙ length-table _ _ ∙ i) ∙ rw (p, r, h, h′, f, i, j)
+
+returns : tie.Need-returns
+returns c =
+    let e₂ = c .before .before in
+    let e₁ = e₂ .before .before .before .before .before in
+    let a = e₁ .before .before .before .before .args in
+    whole (a .s) (a .m + 4 * a .s) (a .m + 2 * a .s - 2) (a .m + 2 * a .s - 0) (a .m + 2 * a .s) (a .m + 2 * a .s + a .s + (a .m + 6 * a .s) - (a .m + 2 * a .s + a .s)) (a .m + 6 * a .s) (a .m + 2 * a .s + a .s) (a .m + 3 * a .s) (a .d .now) _ (omega arith) (omega arith) (omega arith) (omega arith) (omega arith) (e₁ .gradients .ensures) (e₂ .gradients2 .ensures)
+
+pub all-gradients-spec : {M : Type 1} → statement M
+all-gradients-spec =
+    tie.close
+    (tie.spec
+    mul-rows
+    add-rows
+    add-at
+    mul-end
+    add-end
+    add-end-2
+    sub-columns
+    sub-gradients
+    part-gradients-start
+    part-gradients-end
+    sub-gradients-2
+    part-gradients-start-2
+    part-gradients-end-2
+    gradients-requires
+    mul-gradients
+    sub-gradients-3
+    part-gradients-start-3
+    part-gradients-end-3
+    mul-gradients-2
+    sub-gradients-4
+    part-gradients-start-4
+    part-gradients-end-4
+    gradients-requires-2
+    same-length
+    returns)

@@ -1,0 +1,287 @@
+-- `green_blocks::block::fuse_rows` meets its contract. Assumes nothing.
+use Prim.Native.Nat.{ℕ, _+_, _-_, _*_, _%_, _≤_}
+use native.Mathlib.Nat.{mul-le-mul-right, add-sub-cancel-left}
+use native.Mathlib.Omega.{arith}
+use mathlib.Core.List.{List}
+use mathlib.Core.Path.{_≡_, refl, _∙_}
+use lib.IntN.{ℤ, pos, natAbs}
+use lib.ListN.{length, take, drop}
+use Rattle.gbtf.specs.Weights.{scale, evenWeights}
+use Rattle.green_rows.specs.Table.{table}
+use Rattle.green_rows.specs.Buffer.{greenIn}
+use Rattle.green_blocks.specs.Block.{greenRowIn}
+use Rattle.green_rows.proofs.TableLaws.{length-table, part-within, Handed, joined-none, joined-turn, joined-done}
+use Rattle.green_rows.proofs.PartLaws.{part-length, row-is}
+use Rattle.green_rows.proofs.BoundLaws.{all-part}
+use Rattle.green_blocks.proofs.block.fuse_rows.Statement.{statement}
+use Rattle.green_blocks.proofs.block.fuse_rows.Tie as tie
+
+abbrev rows : (x : List ℕ) (w s odd : ℕ) (dh dv : List ℤ) (gh gv : List ℕ) (i : ℕ) → List ℕ
+rows x w s odd dh dv gh gv = greenRowIn scale evenWeights w s odd x dh dv gh gv
+
+row-length : (x : List ℕ) (w s odd : ℕ) (dh dv : List ℤ) (gh gv : List ℕ) (i : ℕ) → length (rows x w s odd dh dv gh gv i) ≡ w
+row-length x w s odd dh dv gh gv i = length-table _ w
+
+-- the gradients along the rows lack two at the end
+short : (n m s w : ℕ) → w + 14 ≤ s → n + s ≤ m → n + (3 * s - 2) ≤ m + 2 * s - 2
+short n m s w g h = omega arith
+
+three : (s w : ℕ) → w + 14 ≤ s → 3 * s - 2 + 2 ≡ 3 * s
+three s w h = omega arith
+
+-- what row i is handed
+row-same : (x : List ℕ) (dh dv : List ℤ) (gh gv : List ℕ) (w s odd i : ℕ) {n : ℕ} → n ≡ w
+    → table (greenIn scale evenWeights s ((odd + i) % 2) (take (i * w + w - i * w) (drop (i * w) x)) (take (i * s + 3 * s - i * s) (drop (i * s) dh)) (take (i * s + 9 * s - i * s) (drop (i * s) dv)) (take (i * s + (3 * s - 2) - i * s) (drop (i * s) gh)) (take (i * s + 5 * s - i * s) (drop (i * s) gv))) n
+    ≡ rows x w s odd dh dv gh gv i
+row-same x dh dv gh gv w s odd i e = rw (e, row-is w i x refl, add-sub-cancel-left (i * s) (3 * s), add-sub-cancel-left (i * s) (9 * s), add-sub-cancel-left (i * s) (3 * s - 2), add-sub-cancel-left (i * s) (5 * s))
+
+abbrev Inv-loop : tie.InvT-loop
+Inv-loop x w b s odd dh dv gh gv t₀ f₀ out₀ i₀ t f out i =
+    (i ≤ b) × (Handed (rows x w s odd dh dv gh gv) w (row-length x w s odd dh dv gh gv) i out₀ out) × (length t ≡ length t₀) × (length f ≡ length f₀)
+
+abbrev μ-loop : tie.MeasureT-loop
+μ-loop x w b s odd dh dv gh gv t₀ f₀ out₀ i₀ t f out i = b - i
+
+loop-holds : tie.Need-loop-holds Inv-loop μ-loop
+loop-holds c = (omega arith, (joined-none _ _ (row-length _ _ _ _ _ _ _ _) _, refl), refl, refl)
+
+-- row i lies in x and in out, and its places in the other buffers
+writes : (c : tie.In-loop Inv-loop μ-loop) → let a = c .before .before .before .before .before .before .before .args in c .before .loop .i * a .w + a .w ≤ a .b * a .w
+writes c = part-within (c .before .before .before .before .before .before .before .args .w) (c .loop-test .taken)
+
+places : (c : tie.In-loop Inv-loop μ-loop) → let a = c .before .before .before .before .before .before .before .args in c .before .loop .i * a .s + a .s ≤ a .b * a .s
+places c = part-within (c .before .before .before .before .before .before .before .args .s) (c .loop-test .taken)
+
+few : (c : tie.In-loop Inv-loop μ-loop) → let a = c .before .before .before .before .before .before .before .args in a .b * a .s ≤ 8 * a .s
+few c = mul-le-mul-right _ (c .before .before .before .before .before .before .before .pre .0 .6)
+
+mul-at : tie.Need-mul-at Inv-loop μ-loop
+mul-at c = omega (arith, writes c, places c, few c)
+
+add-end : tie.Need-add-end Inv-loop μ-loop
+add-end c = omega (arith, writes c, places c, few c)
+
+mul-o : tie.Need-mul-o Inv-loop μ-loop
+mul-o c = omega (arith, writes c, places c, few c)
+
+mul-rows : tie.Need-mul-rows Inv-loop μ-loop
+mul-rows c = omega (arith, writes c, places c, few c)
+
+add-rows : tie.Need-add-rows Inv-loop μ-loop
+add-rows c = omega (arith, writes c, places c, few c)
+
+mul-down : tie.Need-mul-down Inv-loop μ-loop
+mul-down c = omega (arith, writes c, places c, few c)
+
+add-down : tie.Need-add-down Inv-loop μ-loop
+add-down c = omega (arith, writes c, places c, few c)
+
+mul-across : tie.Need-mul-across Inv-loop μ-loop
+mul-across c = omega arith
+
+sub-across : tie.Need-sub-across Inv-loop μ-loop
+sub-across c = omega arith
+
+add-across : tie.Need-add-across Inv-loop μ-loop
+add-across c = omega (arith, places c, few c)
+
+mul-steep : tie.Need-mul-steep Inv-loop μ-loop
+mul-steep c = omega (arith, writes c, places c, few c)
+
+add-steep : tie.Need-add-steep Inv-loop μ-loop
+add-steep c = omega (arith, writes c, places c, few c)
+
+mul-fuse : tie.Need-mul-fuse Inv-loop μ-loop
+mul-fuse c = omega (arith, writes c, places c, few c)
+
+sub-fuse : tie.Need-sub-fuse Inv-loop μ-loop
+sub-fuse c = omega arith
+
+part-fuse-start : tie.Need-part-fuse-start Inv-loop μ-loop
+part-fuse-start c = omega arith
+
+part-fuse-end : tie.Need-part-fuse-end Inv-loop μ-loop
+part-fuse-end c = omega (arith, writes c, places c, few c)
+
+add-fuse : tie.Need-add-fuse Inv-loop μ-loop
+add-fuse c = omega arith
+
+mul-fuse-2 : tie.Need-mul-fuse-2 Inv-loop μ-loop
+mul-fuse-2 c = omega (arith, writes (c .before), places (c .before), few (c .before))
+
+sub-fuse-2 : tie.Need-sub-fuse-2 Inv-loop μ-loop
+sub-fuse-2 c = omega arith
+
+part-fuse-start-2 : tie.Need-part-fuse-start-2 Inv-loop μ-loop
+part-fuse-start-2 c = omega arith
+
+part-fuse-end-2 : tie.Need-part-fuse-end-2 Inv-loop μ-loop
+part-fuse-end-2 c = omega (arith, writes (c .before), places (c .before), few (c .before))
+
+mul-fuse-3 : tie.Need-mul-fuse-3 Inv-loop μ-loop
+mul-fuse-3 c = omega (arith, writes (c .before .before), places (c .before .before), few (c .before .before))
+
+sub-fuse-3 : tie.Need-sub-fuse-3 Inv-loop μ-loop
+sub-fuse-3 c = omega arith
+
+part-fuse-start-3 : tie.Need-part-fuse-start-3 Inv-loop μ-loop
+part-fuse-start-3 c = omega arith
+
+part-fuse-end-3 : tie.Need-part-fuse-end-3 Inv-loop μ-loop
+part-fuse-end-3 c = omega (arith, writes (c .before .before), places (c .before .before), few (c .before .before))
+
+mul-fuse-4 : tie.Need-mul-fuse-4 Inv-loop μ-loop
+mul-fuse-4 c = omega (arith, writes (c .before .before .before), places (c .before .before .before), few (c .before .before .before))
+
+sub-fuse-4 : tie.Need-sub-fuse-4 Inv-loop μ-loop
+sub-fuse-4 c = omega arith
+
+part-fuse-start-4 : tie.Need-part-fuse-start-4 Inv-loop μ-loop
+part-fuse-start-4 c = omega arith
+
+part-fuse-end-4 : tie.Need-part-fuse-end-4 Inv-loop μ-loop
+part-fuse-end-4 c = omega (arith, writes (c .before .before .before), places (c .before .before .before), few (c .before .before .before))
+
+mul-fuse-5 : tie.Need-mul-fuse-5 Inv-loop μ-loop
+mul-fuse-5 c = omega (arith, writes (c .before .before .before .before), places (c .before .before .before .before), few (c .before .before .before .before))
+
+sub-fuse-5 : tie.Need-sub-fuse-5 Inv-loop μ-loop
+sub-fuse-5 c = omega arith
+
+part-fuse-start-5 : tie.Need-part-fuse-start-5 Inv-loop μ-loop
+part-fuse-start-5 c = omega arith
+
+part-fuse-end-5 : tie.Need-part-fuse-end-5 Inv-loop μ-loop
+part-fuse-end-5 c = omega (arith, writes (c .before .before .before .before), places (c .before .before .before .before), few (c .before .before .before .before))
+
+mul-fuse-6 : tie.Need-mul-fuse-6 Inv-loop μ-loop
+mul-fuse-6 c = omega (arith, writes (c .before .before .before .before .before .before .before), places (c .before .before .before .before .before .before .before), few (c .before .before .before .before .before .before .before))
+
+sub-fuse-6 : tie.Need-sub-fuse-6 Inv-loop μ-loop
+sub-fuse-6 c = omega arith
+
+part-fuse-start-6 : tie.Need-part-fuse-start-6 Inv-loop μ-loop
+part-fuse-start-6 c = omega arith
+
+part-fuse-end-6 : tie.Need-part-fuse-end-6 Inv-loop μ-loop
+part-fuse-end-6 c = omega (arith, writes (c .before .before .before .before .before .before .before), places (c .before .before .before .before .before .before .before), few (c .before .before .before .before .before .before .before))
+
+fuse-requires : tie.Need-fuse-requires Inv-loop μ-loop
+fuse-requires c κs =
+    let k = c .before .before .before .before .before .before .before .before in
+    let l = k .before .loop in
+    let q = k .before .before .before .before .before .before .before in
+    let a = q .args in
+    let P : ℤ → Type 0 = λ d. natAbs d ≤ 16380 in
+    let N : ℕ → Type 0 = λ g. g ≤ 32760 in
+    let lx = part-length (l .i * a .w) (a .w) (a .x .now) (omega (arith, writes k)) in
+    let lo = part-length (l .i * a .w) (a .w) (l .out) (omega (arith, writes k)) in
+    let l₁ = part-length (l .i * a .s) (3 * a .s) (a .dh .now) (omega (arith, places k)) in
+    let l₂ = part-length (l .i * a .s) (9 * a .s) (a .dv .now) (omega (arith, places k)) in
+    let l₃ = part-length (l .i * a .s) (3 * a .s - 2) (a .gh .now) (rw (q .pre .1 .0 .2) (short (l .i * a .s) (a .b * a .s) (a .s) (a .w) (q .pre .0 .4) (places k))) in
+    let l₄ = part-length (l .i * a .s) (5 * a .s) (a .gv .now) (omega (arith, places k)) in
+    rw (lx, lo, l₁, l₂, l₃, l₄) (
+      (omega arith, all-part (λ n. n ≤ 4095) 0 (omega arith) (l .i * a .w) (l .i * a .w + a .w - l .i * a .w) (a .x .now) (q .pre .0 .1), refl),
+      (
+        (q .pre .0 .4, omega arith, refl, refl, three (a .s) (a .w) (q .pre .0 .4), refl),
+        (
+          (
+            all-part P (pos 0) (omega arith) (l .i * a .s) (l .i * a .s + 3 * a .s - l .i * a .s) (a .dh .now) (q .pre .1 .1 .0),
+            all-part P (pos 0) (omega arith) (l .i * a .s) (l .i * a .s + 9 * a .s - l .i * a .s) (a .dv .now) (q .pre .1 .1 .1),
+            all-part N 0 (omega arith) (l .i * a .s) (l .i * a .s + (3 * a .s - 2) - l .i * a .s) (a .gh .now) (q .pre .1 .1 .2),
+            all-part N 0 (omega arith) (l .i * a .s) (l .i * a .s + 5 * a .s - l .i * a .s) (a .gv .now) (q .pre .1 .1 .3),
+          ),
+          (l .inv .2 ∙ q .pre .1 .0 .4, l .inv .3 ∙ q .pre .1 .0 .5),
+        ),
+      ),
+    )
+
+add-i : tie.Need-add-i Inv-loop μ-loop
+add-i c = omega arith
+
+loop-less : tie.Need-loop-less Inv-loop μ-loop
+loop-less c = omega arith
+
+loop-again : tie.Need-loop-again Inv-loop μ-loop
+loop-again c =
+    let r = c .before .before .before .before .before in
+    let k = r .before .before .before .before .before .before .before .before .before in
+    let l = k .before .loop in
+    let q = k .before .before .before .before .before .before .before in
+    let a = q .args in
+    let z = r .fuse .kept .1 .1 .1 .1 .1 .1 .1 in (
+      omega arith,
+      joined-turn _ _ (row-length (a .x .now) (a .w) (a .s) (a .odd) (a .dh .now) (a .dv .now) (a .gh .now) (a .gv .now)) (l .i) (a .b) (a .out .now) (k .loop-test .taken) (q .pre .0 .3) (l .inv .1)
+          (r .fuse .ensures ∙ row-same (a .x .now) (a .dh .now) (a .dv .now) (a .gh .now) (a .gv .now) (a .w) (a .s) (a .odd) (l .i) (part-length (l .i * a .w) (a .w) (l .out) (omega (arith, writes k)))),
+      z .0 ∙ l .inv .2,
+      z .1 .0 ∙ l .inv .3,
+    )
+
+same-length : tie.Need-same-length Inv-loop μ-loop
+same-length c = omega arith
+
+same-length-2 : tie.Need-same-length-2 Inv-loop μ-loop
+same-length-2 c = omega arith
+
+same-length-3 : tie.Need-same-length-3 Inv-loop μ-loop
+same-length-3 c = omega arith
+
+returns : tie.Need-returns Inv-loop μ-loop
+returns c =
+    let l = c .before .loop in
+    let q = c .before .before .before .before .before .before .before in
+    let a = q .args in
+    l .inv .1 .0 ∙ joined-done _ _ (row-length (a .x .now) (a .w) (a .s) (a .odd) (a .dh .now) (a .dv .now) (a .gh .now) (a .gv .now)) (l .i) (a .b) _ (l .inv .0) (c .loop-test .left) (q .pre .0 .3)
+
+pub fuse-rows-spec : {M : Type 1} → statement M
+fuse-rows-spec =
+    tie.close
+    (tie.spec
+    Inv-loop
+    μ-loop
+    loop-holds
+    mul-at
+    add-end
+    mul-o
+    mul-rows
+    add-rows
+    mul-down
+    add-down
+    mul-across
+    sub-across
+    add-across
+    mul-steep
+    add-steep
+    mul-fuse
+    sub-fuse
+    part-fuse-start
+    part-fuse-end
+    add-fuse
+    mul-fuse-2
+    sub-fuse-2
+    part-fuse-start-2
+    part-fuse-end-2
+    mul-fuse-3
+    sub-fuse-3
+    part-fuse-start-3
+    part-fuse-end-3
+    mul-fuse-4
+    sub-fuse-4
+    part-fuse-start-4
+    part-fuse-end-4
+    mul-fuse-5
+    sub-fuse-5
+    part-fuse-start-5
+    part-fuse-end-5
+    mul-fuse-6
+    sub-fuse-6
+    part-fuse-start-6
+    part-fuse-end-6
+    fuse-requires
+    add-i
+    loop-less
+    loop-again
+    same-length
+    same-length-2
+    same-length-3
+    returns)

@@ -1,0 +1,136 @@
+// Green of a block of b rows, from b + 12 rows of readings: what rows have in common is worked out once. In the buffers of a block m = b * s places belong to
+// its rows; what is around them is a few rows more on either side.
+ghost use mathlib.Core.Path.{_≡_};
+ghost use mathlib.Core.List.{_++_};
+ghost use Prim.Native.Nat.{ℕ, _+_, _*_, _-_, _%_, _≤_, _<_};
+ghost use lib.IntN.{pos};
+ghost use lib.ListN.{length};
+ghost use Rattle.gbtf.specs.Mosaic.{continued};
+ghost use Rattle.gbtf.specs.GreenAt.{greenAt};
+ghost use Rattle.gbtf.specs.Weights.{scale, evenWeights};
+ghost use Rattle.green_rows.specs.Table.{table, joined, part};
+ghost use Rattle.green_rows.specs.Buffer.{differenceIn, gradientIn, AllAtMost, AllWithin};
+ghost use Rattle.green_rows.specs.Extended.{Lent};
+ghost use Rattle.green_blocks.specs.Block.{greenRowIn};
+use crate::fetch::fetch;
+use bayer::frame::Frame;
+use green_rows::along::differences;
+use green_rows::along::gradients;
+use green_rows::fuse::fuse;
+use green_rows::row::starts_green;
+
+// The differences along the b + 2 rows in the middle of the readings, and then along the columns of the b + 8 in the middle.
+fn all_differences(x: &[u16], s: usize, m: usize, odd: usize, d: &mut [i32])
+    requires { ⌜ (odd < 2) × (2 ≤ s) × (s ≤ 4111) × (m ≤ 32888) × (length (now x) ≡ m + 12 * s) × (length (now d) ≡ m + 2 * s + (m + 8 * s)) ⌝ }
+    ensures { λ _. ⌜ now (d .exit) ≡ table (differenceIn 1 odd (part (5 * s - 2) (m + 2 * s + 4) (now (x .entry)))) (m + 2 * s) ++ table (differenceIn s (1 - odd) (now (x .entry))) (m + 8 * s) ⌝ }
+{
+    let at = 5 * s - 2;
+    let end = m + 7 * s + 2;
+    let rows = m + 2 * s;
+    differences(&x[at..end], 1, odd, &mut d[0..rows]);
+    differences(x, s, 1 - odd, &mut d[rows..]);
+}
+
+// Their gradients: along the b + 2 rows, and along the columns of the b + 4 rows in the middle.
+fn all_gradients(d: &[i32], s: usize, m: usize, g: &mut [u32])
+    requires { ⌜ (2 ≤ s) × (s ≤ 4111) × (m ≤ 32888) × (length (now d) ≡ m + 2 * s + (m + 8 * s)) × (length (now g) ≡ m + 2 * s - 2 + (m + 4 * s)) ⌝ }
+    ensures { λ _. ⌜ now (g .exit) ≡ table (gradientIn 1 (part 0 (m + 2 * s) (now (d .entry)))) (m + 2 * s - 2) ++ table (gradientIn s (part (m + 3 * s) (m + 6 * s) (now (d .entry)))) (m + 4 * s) ⌝ }
+{
+    let rows = m + 2 * s;
+    let at = rows + s;
+    let end = at + (m + 6 * s);
+    let columns = rows - 2;
+    gradients(&d[0..rows], 1, &mut g[0..columns]);
+    gradients(&d[at..end], s, &mut g[columns..]);
+}
+
+// Green of b rows of readings x, from the differences and gradients of a block.
+fn fuse_rows(
+    x: &[u16],
+    w: usize,
+    b: usize,
+    s: usize,
+    odd: usize,
+    dh: &[i32],
+    dv: &[i32],
+    gh: &[u32],
+    gv: &[u32],
+    t: &mut [u32],
+    f: &mut [i32],
+    out: &mut [u16],
+)
+    requires { ⌜ (odd < 2) × (AllAtMost 4095 (now x)) × (length (now x) ≡ b * w) × (length (now out) ≡ b * w) × (w + 14 ≤ s) × (s ≤ 4111) × (b ≤ 8) ⌝ }
+    requires { ⌜ (length (now dh) ≡ b * s + 2 * s) × (length (now dv) ≡ b * s + 8 * s) × (length (now gh) ≡ b * s + 2 * s - 2) × (length (now gv) ≡ b * s + 4 * s) × (length (now t) ≡ 4 * w) × (length (now f) ≡ 4 * w) ⌝ }
+    requires { ⌜ (AllWithin 16380 (now dh)) × (AllWithin 16380 (now dv)) × (AllAtMost 32760 (now gh)) × (AllAtMost 32760 (now gv)) ⌝ }
+    ensures { λ _. ⌜ now (out .exit) ≡ joined (greenRowIn scale evenWeights w s odd (now (x .entry)) (now (dh .entry)) (now (dv .entry)) (now (gh .entry)) (now (gv .entry))) b ⌝ }
+{
+    let mut i = 0;
+    while i < b {
+        let at = i * w;
+        let end = at + w;
+        let o = i * s;
+        let rows = o + 3 * s;
+        let down = o + 9 * s;
+        let across = o + (3 * s - 2);
+        let steep = o + 5 * s;
+        fuse(
+            &x[at..end],
+            s,
+            (odd + i) % 2,
+            &dh[o..rows],
+            &dv[o..down],
+            &gh[o..across],
+            &gv[o..steep],
+            t,
+            f,
+            &mut out[at..end],
+        );
+        i += 1;
+    }
+}
+
+// Green of rows v to v + b - 1. x, d, g, t and f are room for readings, differences, gradients and a row's sums; what they held before does not matter, and what they hold afterwards is not promised.
+pub fn green_block(
+    frame: Frame,
+    start: usize,
+    piece: &[u16],
+    v: usize,
+    b: usize,
+    s: usize,
+    x: &mut [u16],
+    d: &mut [i32],
+    g: &mut [u32],
+    t: &mut [u32],
+    f: &mut [i32],
+    out: &mut [u16],
+)
+    requires { ⌜ ((i : ℕ) → i < b → Lent frame start (length (now piece)) (v + i)) × (0 < b) × (b ≤ 8) × (frame .layout ≤ 3) × (AllAtMost 4095 (now piece)) ⌝ }
+    requires { ⌜ (s % 2 ≡ 1) × (frame .width + 14 ≤ s) × (s ≤ frame .width + 15) ⌝ }
+    requires { ⌜ (length (now x) ≡ b * s + 12 * s) × (length (now d) ≡ b * s + 2 * s + (b * s + 8 * s)) × (length (now g) ≡ b * s + 2 * s - 2 + (b * s + 4 * s)) × (length (now t) ≡ 4 * frame .width) × (length (now f) ≡ 4 * frame .width) × (length (now out) ≡ b * frame .width) ⌝ }
+    ensures { λ _. ⌜ now (out .exit) ≡ joined (λ i. table (λ j. greenAt evenWeights (continued frame start (now (piece .entry))) (pos (v + i)) (pos j) scale) (frame .width)) b ⌝ }
+{
+    let w = frame.width;
+    let odd = starts_green(frame.layout, v);
+    let m = b * s;
+    fetch(frame, start, piece, v, b, s, x);
+    all_differences(x, s, m, odd, d);
+    all_gradients(d, s, m, g);
+    let at = (v - start) * w;
+    let end = at + b * w;
+    let rows = m + 2 * s;
+    let columns = rows - 2;
+    fuse_rows(
+        &piece[at..end],
+        w,
+        b,
+        s,
+        odd,
+        &d[0..rows],
+        &d[rows..],
+        &g[0..columns],
+        &g[columns..],
+        t,
+        f,
+        out,
+    );
+}

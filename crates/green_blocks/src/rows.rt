@@ -1,0 +1,106 @@
+ghost use mathlib.Core.Path.{_≡_};
+ghost use Prim.Native.Nat.{ℕ, _+_, _*_, _%_, _≤_, _<_, min};
+ghost use lib.IntN.{pos};
+ghost use lib.ListN.{length};
+ghost use Rattle.gbtf.specs.Mosaic.{continued};
+ghost use Rattle.gbtf.specs.GreenAt.{greenAt};
+ghost use Rattle.gbtf.specs.Weights.{scale, evenWeights};
+ghost use Rattle.green_rows.specs.Table.{table, joined};
+ghost use Rattle.green_rows.specs.Buffer.{AllAtMost};
+ghost use Rattle.green_rows.specs.Extended.{Lent};
+use crate::block::green_block;
+use bayer::frame::Frame;
+use green_rows::row::stride;
+
+// The rows of a block: more would make the buffers larger and save little.
+fn block_size(n: usize) -> usize
+    ensures { λ b. ⌜ b ≡ min n 8 ⌝ }
+{
+    if n < 8 { n } else { 8 }
+}
+
+// The same, in as much of the room as a block of b rows needs.
+fn green_block_in(
+    frame: Frame,
+    start: usize,
+    piece: &[u16],
+    v: usize,
+    b: usize,
+    s: usize,
+    x: &mut [u16],
+    d: &mut [i32],
+    g: &mut [u32],
+    t: &mut [u32],
+    f: &mut [i32],
+    out: &mut [u16],
+)
+    requires { ⌜ ((i : ℕ) → i < b → Lent frame start (length (now piece)) (v + i)) × (0 < b) × (b ≤ 8) × (frame .layout ≤ 3) × (AllAtMost 4095 (now piece)) ⌝ }
+    requires { ⌜ (s % 2 ≡ 1) × (frame .width + 14 ≤ s) × (s ≤ frame .width + 15) ⌝ }
+    requires { ⌜ (20 * s ≤ length (now x)) × (26 * s ≤ length (now d)) × (22 * s ≤ length (now g)) × (4 * frame .width ≤ length (now t)) × (4 * frame .width ≤ length (now f)) × (length (now out) ≡ b * frame .width) ⌝ }
+    ensures { λ _. ⌜ now (out .exit) ≡ joined (λ i. table (λ j. greenAt evenWeights (continued frame start (now (piece .entry))) (pos (v + i)) (pos j) scale) (frame .width)) b ⌝ }
+{
+    let m = b * s;
+    let xs = m + 12 * s;
+    let ds = 2 * m + 10 * s;
+    let gs = 2 * m + 6 * s - 2;
+    let sums = 4 * frame.width;
+    green_block(
+        frame,
+        start,
+        piece,
+        v,
+        b,
+        s,
+        &mut x[0..xs],
+        &mut d[0..ds],
+        &mut g[0..gs],
+        &mut t[0..sums],
+        &mut f[0..sums],
+        out,
+    );
+}
+
+// Green of rows a to a + n - 1, block after block. The room is for blocks of 8 rows of 4111 places: 20 rows of readings, 26 of differences, 22 of gradients, and the
+// sums of the four directions for one row.
+pub fn green_rows(
+    frame: Frame,
+    start: usize,
+    piece: &[u16],
+    a: usize,
+    n: usize,
+    x: &mut [u16],
+    d: &mut [i32],
+    g: &mut [u32],
+    t: &mut [u32],
+    f: &mut [i32],
+    out: &mut [u16],
+)
+    requires { ⌜ ((i : ℕ) → i < n → Lent frame start (length (now piece)) (a + i)) × (frame .layout ≤ 3) × (AllAtMost 4095 (now piece)) ⌝ }
+    requires { ⌜ (n ≤ 4096) × (a ≤ 4096) × (frame .width ≤ 4096) ⌝ }
+    requires { ⌜ (82220 ≤ length (now x)) × (106886 ≤ length (now d)) × (90442 ≤ length (now g)) × (16384 ≤ length (now t)) × (16384 ≤ length (now f)) × (length (now out) ≡ n * frame .width) ⌝ }
+    ensures { λ _. ⌜ now (out .exit) ≡ joined (λ i. table (λ j. greenAt evenWeights (continued frame start (now (piece .entry))) (pos (a + i)) (pos j) scale) (frame .width)) n ⌝ }
+{
+    let w = frame.width;
+    let s = stride(w);
+    let mut i = 0;
+    while i < n {
+        let b = block_size(n - i);
+        let at = i * w;
+        let end = at + b * w;
+        green_block_in(
+            frame,
+            start,
+            piece,
+            a + i,
+            b,
+            s,
+            x,
+            d,
+            g,
+            t,
+            f,
+            &mut out[at..end],
+        );
+        i += b;
+    }
+}

@@ -1,0 +1,77 @@
+-- The sums of the four directions, as the passes over a row work them out and leave them. Assumes nothing.
+use Prim.Native.Nat.{ℕ, zero, suc, _+_, _-_, _*_, _≤_, _<_}
+use mathlib.Core.List.{List, [], _∷_}
+use mathlib.Core.Bool.{cond}
+use mathlib.Core.Path.{_≡_, ap, ap₂, _∙_}
+use native.Mathlib.Omega.{arith}
+use lib.Dec.{lit≤}
+use lib.IntN.{ℤ, pos, natAbs, _*ℤ_}
+use lib.ListN.{length, getD}
+use Rattle.whole.proofs.Pairs.{anyₚ, _+ₚ_, eq-by}
+use Rattle.gbtf.specs.Direction.{direction, directionSum, fiveSum, total}
+use Rattle.gbtf.specs.Fusion.{green}
+use Rattle.gbtf.specs.Weights.{scale, evenWeights}
+use Rattle.gbtf.proofs.PixelLaws.{five-sum-within}
+use Rattle.green_rows.specs.Table.{table, joined}
+use Rattle.green_rows.specs.Buffer.{isOdd, windowIn, after, before, reversed, sumIn, fiveIn, directionFrom, fusedFrom, greenFrom, fusedIn, greenIn, AllAtMost, AllWithin}
+use Rattle.green_rows.proofs.TableLaws.{table-same, table-all, parts, getD-parts}
+use Rattle.green_rows.proofs.BoundLaws.{all-joined, window-at-most}
+use Rattle.green_rows.proofs.RowLaws.{five-same}
+
+-- ---- one place
+pub sum-at : (s : ℕ) (g : List ℕ) {p q : ℕ} → p ≡ q → directionSum (windowIn s g p) ≡ directionSum (windowIn s g q)
+sum-at s g e = ap (λ p. directionSum (windowIn s g p)) e
+
+pub five-after : (ws : List ℕ) (step : ℕ) (d : List ℤ) {p q : ℕ} → p ≡ q → fiveSum ws (after step d p) ≡ fiveSum ws (after step d q)
+five-after ws step d e = ap (λ p. fiveSum ws (after step d p)) e
+
+-- the other way round
+turned : (ws : List ℕ) (D : ℕ → ℤ) → fiveSum (reversed ws) D ≡ fiveSum ws (λ k. D (4 - k))
+turned ws D =
+    let a : ℕ → ℤ = λ k. pos (getD ws k 0) *ℤ D (4 - k) in
+    eq-by (anyₚ (a 4) +ₚ anyₚ (a 3) +ₚ anyₚ (a 2) +ₚ anyₚ (a 1) +ₚ anyₚ (a 0)) (anyₚ (a 0) +ₚ anyₚ (a 1) +ₚ anyₚ (a 2) +ₚ anyₚ (a 3) +ₚ anyₚ (a 4)) (omega arith)
+
+pub five-before : (ws : List ℕ) {back : List ℕ} (step : ℕ) (d : List ℤ) (p q : ℕ) → back ≡ reversed ws → p + 4 * step ≡ q → fiveSum back (after step d p) ≡ fiveSum ws (before step d q)
+five-before ws step d p q r e = rw r (turned ws (after step d p) ∙ five-same ws (λ k. after step d p (4 - k)) (before step d q) at)
+  where
+    at : (k : ℕ) → k ≤ 4 → after step d p (4 - k) ≡ before step d q k
+    at k l = let i : 4 ≡ (4 - k) + k = omega arith in let m : p + (4 - k) * step ≡ q - k * step = omega (arith, ap (λ n. n * step) i) in ap (λ n. getD d n (pos 0)) m
+
+-- ---- a row of w readings: its direction sums, its five-sums, and green from them
+module _ (s w : ℕ) (gh gv : List ℕ) where
+  abbrev sums : List ℕ
+  sums = joined (parts (sumIn s gh gv) w) 4
+
+  pub sums-at-most : AllAtMost 32760 gh → AllAtMost 32760 gv → AllAtMost 294840 sums
+  sums-at-most a b = all-joined (λ n. n ≤ 294840) 0 (omega arith) (parts (sumIn s gh gv) w) 4 (λ k. table-all (λ n. n ≤ 294840) (sumIn s gh gv k) w (omega arith) (λ j _. at-most k j))
+    where
+      at-most : (k j : ℕ) → sumIn s gh gv k j ≤ 294840
+      at-most zero j = window-at-most gh s _ a
+      at-most (suc zero) j = window-at-most gh s _ a
+      at-most (suc (suc zero)) j = window-at-most gv s _ b
+      at-most (suc (suc (suc k))) j = window-at-most gv s _ b
+
+module _ (s w : ℕ) (dh dv : List ℤ) where
+  abbrev fives : List ℤ
+  fives = joined (parts (fiveIn evenWeights s dh dv) w) 4
+
+  pub fives-within : AllWithin 16380 dh → AllWithin 16380 dv → AllWithin 81900 fives
+  fives-within a b = all-joined (λ z. natAbs z ≤ 81900) (pos 0) (omega arith) (parts (fiveIn evenWeights s dh dv) w) 4 (λ k. table-all (λ z. natAbs z ≤ 81900) (fiveIn evenWeights s dh dv k) w (omega arith) (λ j _. within k j))
+    where
+      within : (k j : ℕ) → natAbs (fiveIn evenWeights s dh dv k j) ≤ 81900
+      within zero j = five-sum-within evenWeights (after 1 dh (s + (j + 7))) (λ i. a _)
+      within (suc zero) j = five-sum-within evenWeights (before 1 dh (s + (j + 7))) (λ i. a _)
+      within (suc (suc zero)) j = five-sum-within evenWeights (before s dv (4 * s + (j + 7))) (λ i. b _)
+      within (suc (suc (suc k))) j = five-sum-within evenWeights (after s dv (4 * s + (j + 7))) (λ i. b _)
+
+module _ (s odd : ℕ) (x : List ℕ) (dh dv : List ℤ) (gh gv : List ℕ) where
+  green-is : (j : ℕ) → j < length x → greenFrom scale (total evenWeights) odd x (sums s (length x) gh gv) (fives s (length x) dh dv) j ≡ greenIn scale evenWeights s odd x dh dv gh gv j
+  unfolding greenFrom fusedFrom greenIn fusedIn
+  green-is j h = λ i. cond (isOdd (j + odd)) (16 * getD x j 0) (green scale (total evenWeights) (getD x j 0) (d 0 (lit≤ tt) i) (d 1 (lit≤ tt) i ∷ d 2 (lit≤ tt) i ∷ d 3 (lit≤ tt) i ∷ []))
+    where
+      d : (k : ℕ) → k < 4 → directionFrom (length x) (sums s (length x) gh gv) (fives s (length x) dh dv) j k ≡ direction (fiveIn evenWeights s dh dv k j) (sumIn s gh gv k j)
+      d k l = ap₂ direction (getD-parts (fiveIn evenWeights s dh dv) (length x) 4 k j (pos 0) l h) (getD-parts (sumIn s gh gv) (length x) 4 k j 0 l h)
+
+  pub row-is : {t : List ℕ} {f : List ℤ} (n : ℕ) → n ≡ length x → t ≡ sums s (length x) gh gv → f ≡ fives s (length x) dh dv
+      → table (greenFrom scale (total evenWeights) odd x t f) n ≡ table (greenIn scale evenWeights s odd x dh dv gh gv) n
+  row-is n e p q = rw (p, q) (table-same _ _ n (λ j h. green-is j (omega arith)))
