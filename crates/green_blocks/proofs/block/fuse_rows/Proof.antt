@@ -30,10 +30,10 @@ three : (s w : ℕ) → w + 14 ≤ s → 3 * s - 2 + 2 ≡ 3 * s
 three s w h = omega arith
 
 -- what row i is handed
-row-same : (x : List ℕ) (dh dv : List ℤ) (gh gv : List ℕ) (w s odd i : ℕ) {n : ℕ} → n ≡ w
-    → table (greenIn scale evenWeights s ((odd + i) % 2) (take (i * w + w - i * w) (drop (i * w) x)) (take (i * s + 3 * s - i * s) (drop (i * s) dh)) (take (i * s + 9 * s - i * s) (drop (i * s) dv)) (take (i * s + (3 * s - 2) - i * s) (drop (i * s) gh)) (take (i * s + 5 * s - i * s) (drop (i * s) gv))) n
+row-same : (x : List ℕ) (dh dv : List ℤ) (gh gv : List ℕ) (w s odd i : ℕ) {n o : ℕ} → n ≡ w → o ≡ (odd + i) % 2
+    → table (greenIn scale evenWeights s o (take (i * w + w - i * w) (drop (i * w) x)) (take (i * s + 3 * s - i * s) (drop (i * s) dh)) (take (i * s + 9 * s - i * s) (drop (i * s) dv)) (take (i * s + (3 * s - 2) - i * s) (drop (i * s) gh)) (take (i * s + 5 * s - i * s) (drop (i * s) gv))) n
     ≡ rows x w s odd dh dv gh gv i
-row-same x dh dv gh gv w s odd i e = rw (e, row-is w i x refl, add-sub-cancel-left (i * s) (3 * s), add-sub-cancel-left (i * s) (9 * s), add-sub-cancel-left (i * s) (3 * s - 2), add-sub-cancel-left (i * s) (5 * s))
+row-same x dh dv gh gv w s odd i e h = rw (e, h, row-is w i x refl, add-sub-cancel-left (i * s) (3 * s), add-sub-cancel-left (i * s) (9 * s), add-sub-cancel-left (i * s) (3 * s - 2), add-sub-cancel-left (i * s) (5 * s))
 
 abbrev Inv-loop : tie.InvT-loop
 Inv-loop x w b s odd dh dv gh gv t₀ f₀ out₀ i₀ t f out i =
@@ -212,7 +212,7 @@ loop-again c =
     let z = r .fuse .kept .1 .1 .1 .1 .1 .1 .1 in (
       omega arith,
       joined-turn _ _ (row-length (a .x .now) (a .w) (a .s) (a .odd) (a .dh .now) (a .dv .now) (a .gh .now) (a .gv .now)) (l .i) (a .b) (a .out .now) (k .loop-test .taken) (q .pre .0 .3) (l .inv .1)
-          (r .fuse .ensures ∙ row-same (a .x .now) (a .dh .now) (a .dv .now) (a .gh .now) (a .gv .now) (a .w) (a .s) (a .odd) (l .i) (part-length (l .i * a .w) (a .w) (l .out) (omega (arith, writes k)))),
+          (r .fuse .ensures ∙ row-same (a .x .now) (a .dh .now) (a .dv .now) (a .gh .now) (a .gv .now) (a .w) (a .s) (a .odd) (l .i) (part-length (l .i * a .w) (a .w) (l .out) (omega (arith, writes k))) (omega arith)),
       z .0 ∙ l .inv .2,
       z .1 .0 ∙ l .inv .3,
     )
