@@ -41,7 +41,7 @@ difference-same step o p x y k j green read = λ t. difference (green t) (read 2
 pub record Block (f : Frame) (first : ℕ) (rows : List ℕ) (v b s o : ℕ) (x : List ℕ) (d : List ℤ) (g : List ℕ) : Type 0 where
   pub lent : (i : ℕ) → i < b → Lent f first (length rows) (v + i)
   pub some : 0 < b
-  pub few : b ≤ 8
+  pub few : b ≤ 4
   pub known : f .layout ≤ 3
   pub odd : s % 2 ≡ 1
   pub wide : f .width + 14 ≤ s
@@ -217,7 +217,7 @@ module _ {f : Frame} {first : ℕ} {rows : List ℕ} {v b s o : ℕ} {x : List �
     inner-within = all-part (λ a. natAbs a ≤ 16380) (pos 0) (omega arith) s (m + 6 * s) dv down-within
 
     pub ready : (out sums : List ℕ) (fives : List ℤ) → length out ≡ b * f .width → length sums ≡ 4 * f .width → length fives ≡ 4 * f .width
-        → ((o < 2) × (AllAtMost 4095 own) × (length own ≡ b * f .width) × (length out ≡ b * f .width) × (f .width + 14 ≤ s) × (s ≤ 4111) × (b ≤ 8))
+        → ((o < 2) × (AllAtMost 4095 own) × (length own ≡ b * f .width) × (length out ≡ b * f .width) × (f .width + 14 ≤ s) × (s ≤ 4111) × (b ≤ 4))
         × (((length (take (m + 2 * s - 0) d) ≡ m + 2 * s) × (length (take (length d - (m + 2 * s)) (drop (m + 2 * s) d)) ≡ m + 8 * s) × (length (take (m + 2 * s - 2 - 0) g) ≡ m + 2 * s - 2)
         × (length (take (length g - (m + 2 * s - 2)) (drop (m + 2 * s - 2) g)) ≡ m + 4 * s) × (length sums ≡ 4 * f .width) × (length fives ≡ 4 * f .width))
         × ((AllWithin 16380 (take (m + 2 * s - 0) d)) × (AllWithin 16380 (take (length d - (m + 2 * s)) (drop (m + 2 * s) d))) × (AllAtMost 32760 (take (m + 2 * s - 2 - 0) g))

@@ -21,7 +21,7 @@ use green_rows::row::starts_green;
 
 // The differences along the b + 2 rows in the middle of the readings, and then along the columns of the b + 8 in the middle.
 fn all_differences(x: &[u16], s: usize, m: usize, odd: usize, d: &mut [i32])
-    requires { ⌜ (odd < 2) × (2 ≤ s) × (s ≤ 4111) × (m ≤ 32888) × (length (now x) ≡ m + 12 * s) × (length (now d) ≡ m + 2 * s + (m + 8 * s)) ⌝ }
+    requires { ⌜ (odd < 2) × (2 ≤ s) × (s ≤ 4111) × (m ≤ 16444) × (length (now x) ≡ m + 12 * s) × (length (now d) ≡ m + 2 * s + (m + 8 * s)) ⌝ }
     ensures { λ _. ⌜ now (d .exit) ≡ table (differenceIn 1 odd (part (5 * s - 2) (m + 2 * s + 4) (now (x .entry)))) (m + 2 * s) ++ table (differenceIn s (1 - odd) (now (x .entry))) (m + 8 * s) ⌝ }
 {
     let at = 5 * s - 2;
@@ -33,7 +33,7 @@ fn all_differences(x: &[u16], s: usize, m: usize, odd: usize, d: &mut [i32])
 
 // Their gradients: along the b + 2 rows, and along the columns of the b + 4 rows in the middle.
 fn all_gradients(d: &[i32], s: usize, m: usize, g: &mut [u32])
-    requires { ⌜ (2 ≤ s) × (s ≤ 4111) × (m ≤ 32888) × (length (now d) ≡ m + 2 * s + (m + 8 * s)) × (length (now g) ≡ m + 2 * s - 2 + (m + 4 * s)) ⌝ }
+    requires { ⌜ (2 ≤ s) × (s ≤ 4111) × (m ≤ 16444) × (length (now d) ≡ m + 2 * s + (m + 8 * s)) × (length (now g) ≡ m + 2 * s - 2 + (m + 4 * s)) ⌝ }
     ensures { λ _. ⌜ now (g .exit) ≡ table (gradientIn 1 (part 0 (m + 2 * s) (now (d .entry)))) (m + 2 * s - 2) ++ table (gradientIn s (part (m + 3 * s) (m + 6 * s) (now (d .entry)))) (m + 4 * s) ⌝ }
 {
     let rows = m + 2 * s;
@@ -59,7 +59,7 @@ fn fuse_rows(
     f: &mut [i32],
     out: &mut [u16],
 )
-    requires { ⌜ (odd < 2) × (AllAtMost 4095 (now x)) × (length (now x) ≡ b * w) × (length (now out) ≡ b * w) × (w + 14 ≤ s) × (s ≤ 4111) × (b ≤ 8) ⌝ }
+    requires { ⌜ (odd < 2) × (AllAtMost 4095 (now x)) × (length (now x) ≡ b * w) × (length (now out) ≡ b * w) × (w + 14 ≤ s) × (s ≤ 4111) × (b ≤ 4) ⌝ }
     requires { ⌜ (length (now dh) ≡ b * s + 2 * s) × (length (now dv) ≡ b * s + 8 * s) × (length (now gh) ≡ b * s + 2 * s - 2) × (length (now gv) ≡ b * s + 4 * s) × (length (now t) ≡ 4 * w) × (length (now f) ≡ 4 * w) ⌝ }
     requires { ⌜ (AllWithin 16380 (now dh)) × (AllWithin 16380 (now dv)) × (AllAtMost 32760 (now gh)) × (AllAtMost 32760 (now gv)) ⌝ }
     ensures { λ _. ⌜ now (out .exit) ≡ joined (greenRowIn scale evenWeights w s odd (now (x .entry)) (now (dh .entry)) (now (dv .entry)) (now (gh .entry)) (now (gv .entry))) b ⌝ }
@@ -104,7 +104,7 @@ pub fn green_block(
     f: &mut [i32],
     out: &mut [u16],
 )
-    requires { ⌜ ((i : ℕ) → i < b → Lent frame start (length (now piece)) (v + i)) × (0 < b) × (b ≤ 8) × (frame .layout ≤ 3) × (AllAtMost 4095 (now piece)) ⌝ }
+    requires { ⌜ ((i : ℕ) → i < b → Lent frame start (length (now piece)) (v + i)) × (0 < b) × (b ≤ 4) × (frame .layout ≤ 3) × (AllAtMost 4095 (now piece)) ⌝ }
     requires { ⌜ (s % 2 ≡ 1) × (frame .width + 14 ≤ s) × (s ≤ frame .width + 15) ⌝ }
     requires { ⌜ (length (now x) ≡ b * s + 12 * s) × (length (now d) ≡ b * s + 2 * s + (b * s + 8 * s)) × (length (now g) ≡ b * s + 2 * s - 2 + (b * s + 4 * s)) × (length (now t) ≡ 4 * frame .width) × (length (now f) ≡ 4 * frame .width) × (length (now out) ≡ b * frame .width) ⌝ }
     ensures { λ _. ⌜ now (out .exit) ≡ joined (λ i. table (λ j. greenAt evenWeights (continued frame start (now (piece .entry))) (pos (v + i)) (pos j) scale) (frame .width)) b ⌝ }

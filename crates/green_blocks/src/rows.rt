@@ -14,9 +14,9 @@ use green_rows::row::stride;
 
 // The rows of a block: more would make the buffers larger and save little.
 fn block_size(n: usize) -> usize
-    ensures { λ b. ⌜ b ≡ min n 8 ⌝ }
+    ensures { λ b. ⌜ b ≡ min n 4 ⌝ }
 {
-    if n < 8 { n } else { 8 }
+    if n < 4 { n } else { 4 }
 }
 
 // The same, in as much of the room as a block of b rows needs.
@@ -34,9 +34,9 @@ fn green_block_in(
     f: &mut [i32],
     out: &mut [u16],
 )
-    requires { ⌜ ((i : ℕ) → i < b → Lent frame start (length (now piece)) (v + i)) × (0 < b) × (b ≤ 8) × (frame .layout ≤ 3) × (AllAtMost 4095 (now piece)) ⌝ }
+    requires { ⌜ ((i : ℕ) → i < b → Lent frame start (length (now piece)) (v + i)) × (0 < b) × (b ≤ 4) × (frame .layout ≤ 3) × (AllAtMost 4095 (now piece)) ⌝ }
     requires { ⌜ (s % 2 ≡ 1) × (frame .width + 14 ≤ s) × (s ≤ frame .width + 15) ⌝ }
-    requires { ⌜ (20 * s ≤ length (now x)) × (26 * s ≤ length (now d)) × (22 * s ≤ length (now g)) × (4 * frame .width ≤ length (now t)) × (4 * frame .width ≤ length (now f)) × (length (now out) ≡ b * frame .width) ⌝ }
+    requires { ⌜ (16 * s ≤ length (now x)) × (18 * s ≤ length (now d)) × (14 * s ≤ length (now g)) × (4 * frame .width ≤ length (now t)) × (4 * frame .width ≤ length (now f)) × (length (now out) ≡ b * frame .width) ⌝ }
     ensures { λ _. ⌜ now (out .exit) ≡ joined (λ i. table (λ j. greenAt evenWeights (continued frame start (now (piece .entry))) (pos (v + i)) (pos j) scale) (frame .width)) b ⌝ }
 {
     let m = b * s;
@@ -60,7 +60,7 @@ fn green_block_in(
     );
 }
 
-// Green of rows a to a + n - 1, block after block. The room is for blocks of 8 rows of 4111 places: 20 rows of readings, 26 of differences, 22 of gradients, and the
+// Green of rows a to a + n - 1, block after block. The room is for blocks of 4 rows of 4111 places: 16 rows of readings, 18 of differences, 14 of gradients, and the
 // sums of the four directions for one row.
 pub fn green_rows(
     frame: Frame,
@@ -77,7 +77,7 @@ pub fn green_rows(
 )
     requires { ⌜ ((i : ℕ) → i < n → Lent frame start (length (now piece)) (a + i)) × (frame .layout ≤ 3) × (AllAtMost 4095 (now piece)) ⌝ }
     requires { ⌜ (n ≤ 4096) × (a ≤ 4096) × (frame .width ≤ 4096) ⌝ }
-    requires { ⌜ (82220 ≤ length (now x)) × (106886 ≤ length (now d)) × (90442 ≤ length (now g)) × (16384 ≤ length (now t)) × (16384 ≤ length (now f)) × (length (now out) ≡ n * frame .width) ⌝ }
+    requires { ⌜ (65776 ≤ length (now x)) × (73998 ≤ length (now d)) × (57554 ≤ length (now g)) × (16384 ≤ length (now t)) × (16384 ≤ length (now f)) × (length (now out) ≡ n * frame .width) ⌝ }
     ensures { λ _. ⌜ now (out .exit) ≡ joined (λ i. table (λ j. greenAt evenWeights (continued frame start (now (piece .entry))) (pos (a + i)) (pos j) scale) (frame .width)) n ⌝ }
 {
     let w = frame.width;

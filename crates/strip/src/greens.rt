@@ -21,7 +21,7 @@ fn green_beside(
     out: &mut [u16],
 )
     requires { ⌜ ((v : ℕ) → v + 1 ≡ u → v < frame .height → Lent frame start (length (now piece)) v) × (frame .layout ≤ 3) × (AllAtMost 4095 (now piece)) ⌝ }
-    requires { ⌜ (82220 ≤ length (now x)) × (106886 ≤ length (now d)) × (90442 ≤ length (now g)) × (16384 ≤ length (now t)) × (16384 ≤ length (now f)) × (length (now out) ≡ frame .width) ⌝ }
+    requires { ⌜ (65776 ≤ length (now x)) × (73998 ≤ length (now d)) × (57554 ≤ length (now g)) × (16384 ≤ length (now t)) × (16384 ≤ length (now f)) × (length (now out) ≡ frame .width) ⌝ }
     ensures { λ _. ⌜ Beside frame start (now (piece .entry)) u (now (out .exit)) ⌝ }
 {
     if u == 0 {
@@ -51,7 +51,7 @@ fn greens_in(
 )
     requires { ⌜ Readable frame start (now piece) a n ⌝ }
     requires { ⌜ (n ≤ 4096) × (a ≤ 4096) × (frame .width ≤ 4096) × (length (now green) ≡ n * frame .width) × (length (now above) ≡ frame .width) × (length (now below) ≡ frame .width) ⌝ }
-    requires { ⌜ (82220 ≤ length (now x)) × (106886 ≤ length (now d)) × (90442 ≤ length (now g)) × (16384 ≤ length (now t)) × (16384 ≤ length (now f)) ⌝ }
+    requires { ⌜ (65776 ≤ length (now x)) × (73998 ≤ length (now d)) × (57554 ≤ length (now g)) × (16384 ≤ length (now t)) × (16384 ≤ length (now f)) ⌝ }
     ensures { λ _. ⌜ GreensOf frame start (now (piece .entry)) a n (now (green .exit)) (now (above .exit)) (now (below .exit)) ⌝ }
 {
     green_rows(frame, start, piece, a, n, x, d, g, t, f, green);
@@ -74,9 +74,9 @@ pub fn greens(
     requires { ⌜ (n ≤ 4096) × (a ≤ 4096) × (frame .width ≤ 4096) × (length (now green) ≡ n * frame .width) × (length (now above) ≡ frame .width) × (length (now below) ≡ frame .width) ⌝ }
     ensures { λ _. ⌜ GreensOf frame start (now (piece .entry)) a n (now (green .exit)) (now (above .exit)) (now (below .exit)) ⌝ }
 {
-    let mut x = [0u16; 82220];
-    let mut d = [0i32; 106886];
-    let mut g = [0u32; 90442];
+    let mut x = [0u16; 65776];
+    let mut d = [0i32; 73998];
+    let mut g = [0u32; 57554];
     let mut t = [0u32; 16384];
     let mut f = [0i32; 16384];
     greens_in(

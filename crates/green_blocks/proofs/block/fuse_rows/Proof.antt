@@ -52,7 +52,7 @@ writes c = part-within (c .before .before .before .before .before .before .befor
 places : (c : tie.In-loop Inv-loop μ-loop) → let a = c .before .before .before .before .before .before .before .args in c .before .loop .i * a .s + a .s ≤ a .b * a .s
 places c = part-within (c .before .before .before .before .before .before .before .args .s) (c .loop-test .taken)
 
-few : (c : tie.In-loop Inv-loop μ-loop) → let a = c .before .before .before .before .before .before .before .args in a .b * a .s ≤ 8 * a .s
+few : (c : tie.In-loop Inv-loop μ-loop) → let a = c .before .before .before .before .before .before .before .args in a .b * a .s ≤ 4 * a .s
 few c = mul-le-mul-right _ (c .before .before .before .before .before .before .before .pre .0 .6)
 
 mul-at : tie.Need-mul-at Inv-loop μ-loop

@@ -11,7 +11,7 @@ narrow : (q : tie.Start) → q .args .s ≤ 4111
 narrow q = omega (arith, q .pre .0 .0 0 (q .pre .0 .1) .narrow)
 
 -- the places of the block's rows
-size : (q : tie.Start) → q .args .b * q .args .s ≤ 32888
+size : (q : tie.Start) → q .args .b * q .args .s ≤ 16444
 size q = mul-le-mul (q .pre .0 .2) (narrow q)
 
 starts-green-requires : tie.Need-starts-green-requires

@@ -12,8 +12,8 @@ use Rattle.green_blocks.proofs.rows.green_block_in.Tie as tie
 first-length : {A : Type 0} (l : List A) (n : ℕ) {k : ℕ} → n ≤ length l → n ≡ k → length (take (n - 0) l) ≡ k
 first-length l n h e = rw (sub-zero n) (length-take-le n l h ∙ e)
 
--- at most eight rows, of at most 4111 places each
-few : (q : tie.Start) → q .args .b * q .args .s ≤ 8 * q .args .s
+-- at most four rows, of at most 4111 places each
+few : (q : tie.Start) → q .args .b * q .args .s ≤ 4 * q .args .s
 few q = mul-le-mul-right (q .args .s) (q .pre .0 .2)
 
 narrow : (q : tie.Start) → q .args .frame .width ≤ 4096
