@@ -12,7 +12,7 @@
  *
  * The library keeps no memory between calls, takes no lock and no heap, and prints nothing. Calls in several threads are
  * independent; strips of one frame may run at the same time, each into its own rows. A call of rokzimp_strip takes about
- * 450 KB of stack, whatever the size of the frame: a thread that calls it needs a stack of 512 KB at the least. The others take
+ * 810 KB of stack, whatever the size of the frame: a thread that calls it needs a stack of 1 MB at the least. The others take
  * next to none.
  *
  * A frame has `width` columns and `height` rows, each 8 to 4096. Rows and columns count from 0. Readings are 0 to 4095. The

@@ -26,9 +26,9 @@ fn all_differences(x: &[u16], s: usize, m: usize, odd: usize, d: &mut [i32])
 {
     let at = 5 * s - 2;
     let end = m + 7 * s + 2;
-    let rows = m + 2 * s;
-    differences(&x[at..end], 1, odd, &mut d[0..rows]);
-    differences(x, s, 1 - odd, &mut d[rows..]);
+    let dh_len = m + 2 * s;
+    differences(&x[at..end], 1, odd, &mut d[0..dh_len]);
+    differences(x, s, 1 - odd, &mut d[dh_len..]);
 }
 
 // Their gradients: along the b + 2 rows, and along the columns of the b + 4 rows in the middle.
@@ -36,12 +36,12 @@ fn all_gradients(d: &[i32], s: usize, m: usize, g: &mut [u32])
     requires { ⌜ (2 ≤ s) × (s ≤ 4111) × (m ≤ 16444) × (length (now d) ≡ m + 2 * s + (m + 8 * s)) × (length (now g) ≡ m + 2 * s - 2 + (m + 4 * s)) ⌝ }
     ensures { λ _. ⌜ now (g .exit) ≡ table (gradientIn 1 (part 0 (m + 2 * s) (now (d .entry)))) (m + 2 * s - 2) ++ table (gradientIn s (part (m + 3 * s) (m + 6 * s) (now (d .entry)))) (m + 4 * s) ⌝ }
 {
-    let rows = m + 2 * s;
-    let at = rows + s;
+    let dh_len = m + 2 * s;
+    let at = dh_len + s;
     let end = at + (m + 6 * s);
-    let columns = rows - 2;
-    gradients(&d[0..rows], 1, &mut g[0..columns]);
-    gradients(&d[at..end], s, &mut g[columns..]);
+    let gh_len = dh_len - 2;
+    gradients(&d[0..dh_len], 1, &mut g[0..gh_len]);
+    gradients(&d[at..end], s, &mut g[gh_len..]);
 }
 
 // Green of b rows of readings x, from the differences and gradients of a block.
@@ -69,18 +69,18 @@ fn fuse_rows(
         let at = i * w;
         let end = at + w;
         let o = i * s;
-        let rows = o + 3 * s;
-        let down = o + 9 * s;
-        let across = o + (3 * s - 2);
-        let steep = o + 5 * s;
+        let dh_end = o + 3 * s;
+        let dv_end = o + 9 * s;
+        let gh_end = o + (3 * s - 2);
+        let gv_end = o + 5 * s;
         fuse(
             &x[at..end],
             s,
             (odd + i) % 2,
-            &dh[o..rows],
-            &dv[o..down],
-            &gh[o..across],
-            &gv[o..steep],
+            &dh[o..dh_end],
+            &dv[o..dv_end],
+            &gh[o..gh_end],
+            &gv[o..gv_end],
             t,
             f,
             &mut out[at..end],
@@ -117,18 +117,18 @@ pub fn green_block(
     all_gradients(d, s, m, g);
     let at = (v - start) * w;
     let end = at + b * w;
-    let rows = m + 2 * s;
-    let columns = rows - 2;
+    let dh_len = m + 2 * s;
+    let gh_len = dh_len - 2;
     fuse_rows(
         &piece[at..end],
         w,
         b,
         s,
         odd,
-        &d[0..rows],
-        &d[rows..],
-        &g[0..columns],
-        &g[columns..],
+        &d[0..dh_len],
+        &d[dh_len..],
+        &g[0..gh_len],
+        &g[gh_len..],
         t,
         f,
         out,

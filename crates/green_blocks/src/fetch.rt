@@ -20,9 +20,9 @@ pub fn fetch(frame: Frame, start: usize, piece: &[u16], v: usize, b: usize, s: u
     while r < rows {
         let at = (mirror(h, v + r, 6) - start) * w;
         let end = at + w;
-        let o = r * s;
-        let e = o + s;
-        extend(&piece[at..end], &mut x[o..e]);
+        let to = r * s;
+        let to_end = to + s;
+        extend(&piece[at..end], &mut x[to..to_end]);
         r += 1;
     }
 }

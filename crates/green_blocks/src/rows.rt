@@ -19,7 +19,7 @@ fn block_size(n: usize) -> usize
     if n < 4 { n } else { 4 }
 }
 
-// The same, in as much of the room as a block of b rows needs.
+// Green of rows v to v + b - 1, in as much of the room as b rows need.
 fn green_block_in(
     frame: Frame,
     start: usize,

@@ -17,7 +17,7 @@ use Rattle.gbtf.specs.Weights.{scale, evenWeights}
 use Rattle.demosaic.specs.Sample.{sample}
 use Rattle.demosaic.proofs.FrameLocal.{piece-sample}
 use Rattle.green_rows.specs.Table.{table, joined}
-use Rattle.green_rows.proofs.TableLaws.{length-table, getD-table, table-same, length-joined, getD-joined}
+use Rattle.green_rows.proofs.TableLaws.{length-table, getD-table, table-same, length-joined, getD-joined, joined-same}
 use Rattle.strip.specs.Strip.{anyAbove, stripNumber, stripPlane, frameRows, left, Promise}
 
 -- ---- tests
@@ -99,11 +99,6 @@ module _ (f : Frame) (a n : ℕ) (piece : List ℕ) (k : Colour) where
   pub plane-at : (i j : ℕ) → i < n → j < f .width → getD (stripPlane f a n piece k) (i * f .width + j) 0 ≡ sample scale evenWeights f (pieceStart a) piece k (a + i) j
   unfolding stripPlane
   plane-at i j h g = getD-joined _ (f .width) row-length n i j 0 h g ∙ getD-table _ (f .width) j 0 g
-
-joined-same : (f g : ℕ → List ℕ) (n : ℕ) → ((i : ℕ) → i < n → f i ≡ g i) → joined f n ≡ joined g n
-unfolding joined
-joined-same f g zero h = refl
-joined-same f g (suc n) h = ap₂ (λ x y. x ++ y) (joined-same f g n (λ i l. h i (omega arith))) (h n (omega arith))
 
 -- a piece of the frame gives its rows
 pub strip-of-frame : (f : Frame) (readings : List ℕ) (a n : ℕ) → 8 ≤ f .height → a + n ≤ f .height → (k : Colour) → stripPlane f a n (pieceOf (f .width) (f .height) a n readings) k ≡ frameRows f readings a n k

@@ -27,11 +27,11 @@ add-end c = omega arith
 add-end-2 : tie.Need-add-end-2
 add-end-2 c = omega arith
 
-mul-rows : tie.Need-mul-rows
-mul-rows c = omega arith
+mul-dh-len : tie.Need-mul-dh-len
+mul-dh-len c = omega arith
 
-add-rows : tie.Need-add-rows
-add-rows c = omega arith
+add-dh-len : tie.Need-add-dh-len
+add-dh-len c = omega arith
 
 mul-differences : tie.Need-mul-differences
 mul-differences c = omega arith
@@ -100,8 +100,8 @@ all-differences-spec =
     mul-end
     add-end
     add-end-2
-    mul-rows
-    add-rows
+    mul-dh-len
+    add-dh-len
     mul-differences
     sub-differences
     part-differences-start

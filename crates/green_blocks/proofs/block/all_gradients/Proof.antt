@@ -12,11 +12,11 @@ use Rattle.green_rows.proofs.PartLaws.{put-rest}
 use Rattle.green_blocks.proofs.block.all_gradients.Statement.{statement}
 use Rattle.green_blocks.proofs.block.all_gradients.Tie as tie
 
-mul-rows : tie.Need-mul-rows
-mul-rows c = omega arith
+mul-dh-len : tie.Need-mul-dh-len
+mul-dh-len c = omega arith
 
-add-rows : tie.Need-add-rows
-add-rows c = omega arith
+add-dh-len : tie.Need-add-dh-len
+add-dh-len c = omega arith
 
 add-at : tie.Need-add-at
 add-at c = omega arith
@@ -30,8 +30,8 @@ add-end c = omega arith
 add-end-2 : tie.Need-add-end-2
 add-end-2 c = omega arith
 
-sub-columns : tie.Need-sub-columns
-sub-columns c = omega arith
+sub-gh-len : tie.Need-sub-gh-len
+sub-gh-len c = omega arith
 
 sub-gradients : tie.Need-sub-gradients
 sub-gradients c = omega arith
@@ -101,13 +101,13 @@ pub all-gradients-spec : {M : Type 1} → statement M
 all-gradients-spec =
     tie.close
     (tie.spec
-    mul-rows
-    add-rows
+    mul-dh-len
+    add-dh-len
     add-at
     mul-end
     add-end
     add-end-2
-    sub-columns
+    sub-gh-len
     sub-gradients
     part-gradients-start
     part-gradients-end

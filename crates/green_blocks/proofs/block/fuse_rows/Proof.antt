@@ -64,32 +64,32 @@ add-end c = omega (arith, writes c, places c, few c)
 mul-o : tie.Need-mul-o Inv-loop μ-loop
 mul-o c = omega (arith, writes c, places c, few c)
 
-mul-rows : tie.Need-mul-rows Inv-loop μ-loop
-mul-rows c = omega (arith, writes c, places c, few c)
+mul-dh-end : tie.Need-mul-dh-end Inv-loop μ-loop
+mul-dh-end c = omega (arith, writes c, places c, few c)
 
-add-rows : tie.Need-add-rows Inv-loop μ-loop
-add-rows c = omega (arith, writes c, places c, few c)
+add-dh-end : tie.Need-add-dh-end Inv-loop μ-loop
+add-dh-end c = omega (arith, writes c, places c, few c)
 
-mul-down : tie.Need-mul-down Inv-loop μ-loop
-mul-down c = omega (arith, writes c, places c, few c)
+mul-dv-end : tie.Need-mul-dv-end Inv-loop μ-loop
+mul-dv-end c = omega (arith, writes c, places c, few c)
 
-add-down : tie.Need-add-down Inv-loop μ-loop
-add-down c = omega (arith, writes c, places c, few c)
+add-dv-end : tie.Need-add-dv-end Inv-loop μ-loop
+add-dv-end c = omega (arith, writes c, places c, few c)
 
-mul-across : tie.Need-mul-across Inv-loop μ-loop
-mul-across c = omega arith
+mul-gh-end : tie.Need-mul-gh-end Inv-loop μ-loop
+mul-gh-end c = omega arith
 
-sub-across : tie.Need-sub-across Inv-loop μ-loop
-sub-across c = omega arith
+sub-gh-end : tie.Need-sub-gh-end Inv-loop μ-loop
+sub-gh-end c = omega arith
 
-add-across : tie.Need-add-across Inv-loop μ-loop
-add-across c = omega (arith, places c, few c)
+add-gh-end : tie.Need-add-gh-end Inv-loop μ-loop
+add-gh-end c = omega (arith, places c, few c)
 
-mul-steep : tie.Need-mul-steep Inv-loop μ-loop
-mul-steep c = omega (arith, writes c, places c, few c)
+mul-gv-end : tie.Need-mul-gv-end Inv-loop μ-loop
+mul-gv-end c = omega (arith, writes c, places c, few c)
 
-add-steep : tie.Need-add-steep Inv-loop μ-loop
-add-steep c = omega (arith, writes c, places c, few c)
+add-gv-end : tie.Need-add-gv-end Inv-loop μ-loop
+add-gv-end c = omega (arith, writes c, places c, few c)
 
 mul-fuse : tie.Need-mul-fuse Inv-loop μ-loop
 mul-fuse c = omega (arith, writes c, places c, few c)
@@ -243,15 +243,15 @@ fuse-rows-spec =
     mul-at
     add-end
     mul-o
-    mul-rows
-    add-rows
-    mul-down
-    add-down
-    mul-across
-    sub-across
-    add-across
-    mul-steep
-    add-steep
+    mul-dh-end
+    add-dh-end
+    mul-dv-end
+    add-dv-end
+    mul-gh-end
+    sub-gh-end
+    add-gh-end
+    mul-gv-end
+    add-gv-end
     mul-fuse
     sub-fuse
     part-fuse-start

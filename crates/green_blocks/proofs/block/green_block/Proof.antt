@@ -82,14 +82,14 @@ mul-end c = omega (arith, block-end (given c), size (start c), narrow (start c))
 add-end : tie.Need-add-end
 add-end c = omega (arith, block-end (given c), size (start c), narrow (start c))
 
-mul-rows : tie.Need-mul-rows
-mul-rows c = omega (arith, block-end (given c), size (start c), narrow (start c))
+mul-dh-len : tie.Need-mul-dh-len
+mul-dh-len c = omega (arith, block-end (given c), size (start c), narrow (start c))
 
-add-rows : tie.Need-add-rows
-add-rows c = omega (arith, block-end (given c), size (start c), narrow (start c))
+add-dh-len : tie.Need-add-dh-len
+add-dh-len c = omega (arith, block-end (given c), size (start c), narrow (start c))
 
-sub-columns : tie.Need-sub-columns
-sub-columns c = omega arith
+sub-gh-len : tie.Need-sub-gh-len
+sub-gh-len c = omega arith
 
 mul-fuse-rows : tie.Need-mul-fuse-rows
 mul-fuse-rows c = omega (arith, block-end (given c), size (start c), narrow (start c))
@@ -187,9 +187,9 @@ green-block-spec =
     mul-at
     mul-end
     add-end
-    mul-rows
-    add-rows
-    sub-columns
+    mul-dh-len
+    add-dh-len
+    sub-gh-len
     mul-fuse-rows
     sub-fuse-rows
     part-fuse-rows-start

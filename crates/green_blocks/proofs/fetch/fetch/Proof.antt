@@ -71,11 +71,11 @@ mul-at c = omega (arith, reads c)
 add-end : tie.Need-add-end Inv-loop μ-loop
 add-end c = omega (arith, reads c)
 
-mul-o : tie.Need-mul-o Inv-loop μ-loop
-mul-o c = omega (arith, writes (c .before), size (c .before), few (c .before))
+mul-to : tie.Need-mul-to Inv-loop μ-loop
+mul-to c = omega (arith, writes (c .before), size (c .before), few (c .before))
 
-add-e : tie.Need-add-e Inv-loop μ-loop
-add-e c = omega (arith, writes (c .before), size (c .before), few (c .before))
+add-to-end : tie.Need-add-to-end Inv-loop μ-loop
+add-to-end c = omega (arith, writes (c .before), size (c .before), few (c .before))
 
 mul-extend : tie.Need-mul-extend Inv-loop μ-loop
 mul-extend c = omega (arith, reads c)
@@ -152,8 +152,8 @@ fetch-spec =
     sub-at
     mul-at
     add-end
-    mul-o
-    add-e
+    mul-to
+    add-to-end
     mul-extend
     sub-extend
     part-extend-start

@@ -115,7 +115,7 @@ loop-again c =
     let q = k .before .before .before .before .before .before .before .before in
     let a = q .args in
     let z = r .green-block-in .kept .1 .1 .1 .1 .1 .1 in (
-      inside e,
+      omega (arith, inside e),
       joined-turns _ _ (row-length (a .frame) (a .start) (a .piece .now) (a .a)) (l .i) (e .block-size .result) (a .n) (a .out .now) (inside e) (q .pre .1 .1 .5) (l .inv .1)
           (r .green-block-in .ensures ∙ rows-from (a .frame) (a .start) (a .piece .now) (a .a) (l .i) (e .block-size .result)),
       z .0 ∙ l .inv .2,
