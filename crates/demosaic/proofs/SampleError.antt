@@ -1,8 +1,7 @@
 -- The printed error: where readings are at most 4095, green is within 51 hundredths of the exact reconstruction, and red and blue within 151. By way of green's sharp bound, since twice 0.51 and a half are above 1.51. Assumes nothing.
 use mathlib.Core.Path.{_≡_, refl}
-use mathlib.Core.Bool.{cond}
 use mathlib.Core.List.{List}
-use Prim.Native.Nat.{ℕ, _+_, _*_, _-_, _/_, _≤_, _<_}
+use Prim.Native.Nat.{ℕ, _+_, _*_, _-_, _≤_, _<_}
 use native.Mathlib.Omega.{arith}
 use lib.Dec.{lit≤}
 use lib.IntN.{ℤ, pos}
@@ -16,13 +15,12 @@ use Rattle.bayer.specs.Colour.{same}
 use Rattle.bayer.specs.Mirror.{mirror}
 use Rattle.bayer.specs.View.{rowOf}
 use Rattle.gbtf.specs.Direction.{total}
-use Rattle.gbtf.specs.Fusion.{green}
 use Rattle.gbtf.specs.Mosaic.{Mosaic, continued}
 use Rattle.gbtf.specs.GreenAt.{greenAt, exactGreenAt}
 use Rattle.gbtf.proofs.GreenBound.{within-cond, greenAt-sharp}
 use Rattle.demosaic.specs.Fill.{fill, sumOf}
 use Rattle.gbtf.specs.Weights.{scale, evenWeights}
-use Rattle.demosaic.specs.Sample.{neighbours, Pixel, diagonal, inRow, inColumn, readingOf, colourDifferences, otherFrom, sampleFrom, sample}
+use Rattle.demosaic.specs.Sample.{Pixel, diagonal, inRow, inColumn, readingOf, colourDifferences, otherFrom, sampleFrom, sample}
 use Rattle.demosaic.specs.Exact.{exactFill, exactDifferences, exactOtherFrom, exactFrom, exactSample, printed}
 use Rattle.demosaic.proofs.Neighbours.{neighbours-cases}
 use Rattle.demosaic.proofs.SampleRange.{row-range}

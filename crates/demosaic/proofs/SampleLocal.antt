@@ -1,6 +1,5 @@
 -- Locality of the fills: red and blue of row i depend on the greens and readings of the pixels at most one row away, over any greens; likewise their exact forms. Assumes nothing.
-use mathlib.Core.Path.{_≡_, ap, ap₂}
-use mathlib.Core.List.{map}
+use mathlib.Core.Path.{_≡_, ap₂}
 use mathlib.Core.Bool.{cond}
 use Prim.Native.Nat.{ℕ, _*_}
 use lib.IntN.{ℤ, pos, _+ℤ_, _-ℤ_}

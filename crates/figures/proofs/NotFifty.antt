@@ -1,5 +1,5 @@
 -- The figure 51 cannot become 50: a frame whose green is more than 50 hundredths away from the exact reconstruction, by computation. Assumes nothing.
-use lib.Dec.{T, leb, le→leb, lit≤}
+use lib.Dec.{le→leb, lit≤}
 use Rattle.whole.specs.Fraction.{natural, Within}
 use Rattle.bayer.specs.declared.colour.Colour.the-variants.{Green}
 use Rattle.bayer.specs.Colour.{colours, colourAt}

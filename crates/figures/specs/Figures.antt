@@ -1,5 +1,5 @@
 -- Document 01's bench figures marked M, as a table of claims about the written rules. proofs/FigureTable.antt has the theorem. Assumes nothing.
-use Prim.Native.Nat.{ℕ, zero, suc, _+_}
+use Prim.Native.Nat.{ℕ, zero, suc}
 use mathlib.Core.Bool.{Bool, true, false, _&&_}
 use mathlib.Core.List.{List, [], _∷_, _++_}
 use lib.Dec.{eqb}

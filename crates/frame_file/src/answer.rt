@@ -2,7 +2,6 @@ ghost use mathlib.Core.Path.{_≡_};
 ghost use mathlib.Core.Bool.{false};
 ghost use Prim.Native.Nat.{_*_, _≤_};
 ghost use lib.ListN.{length};
-ghost use Rattle.bayer.specs.declared.colour.Colour.the-variants.{Red, Green, Blue};
 ghost use Rattle.strip.specs.Strip.{three};
 ghost use Rattle.frame_file.specs.Text.{Printed, Answered};
 ghost use Rattle.frame_file.specs.FrameFile.{frameOf, malformed, lines, output};

@@ -7,13 +7,13 @@ use Prim.Native.Nat.{ℕ, zero, suc, _+_, _*_, _-_, _≤_, _<_}
 use native.Mathlib.Omega.{arith}
 use lib.Dec.{lit≤}
 use lib.IntN.{ℤ, pos}
-use lib.ListN.{length, getD, take, drop, length-drop}
+use lib.ListN.{length, getD, drop, length-drop}
 use lib.Seq.{length-take-le, getD-take, getD-drop}
 use Rattle.whole.specs.Fraction.{natural, Within}
 use Rattle.bayer.specs.declared.colour.Colour.{Colour}
 use Rattle.bayer.specs.declared.colour.Colour.the-variants.{Red, Green, Blue}
 use Rattle.bayer.specs.declared.frame.Frame.{Frame}
-use Rattle.bayer.specs.Colour.{colourAt, same}
+use Rattle.bayer.specs.Colour.{colourAt}
 use Rattle.bayer.specs.Piece.{pieceStart, pieceOf}
 use Rattle.bayer.specs.Mirror.{mirror}
 use Rattle.bayer.specs.View.{rowOf}

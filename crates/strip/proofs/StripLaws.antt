@@ -1,11 +1,11 @@
 -- What an accepted strip call is, and what it delivers: the rows of the whole frame. Assumes nothing.
-use mathlib.Core.Path.{_≡_, refl, sym, _∙_, ap, ap₂}
+use mathlib.Core.Path.{_≡_, refl, sym, _∙_, ap}
 use mathlib.Core.Bool.{Bool, true, false, not, _||_}
-use mathlib.Core.List.{List, [], _∷_, _++_}
-use Prim.Native.Nat.{ℕ, zero, suc, _+_, _*_, _-_, _≤_, _<_}
+use mathlib.Core.List.{List, [], _∷_}
+use Prim.Native.Nat.{ℕ, zero, suc, _+_, _*_, _≤_, _<_}
 use native.Mathlib.Omega.{arith}
 use borrow.Author.Tests.{ltb-false}
-use lib.Dec.{T, ltb, eqb, eqb→eq}
+use lib.Dec.{ltb, eqb, eqb→eq}
 use lib.ListN.{length, getD}
 use Rattle.bayer.specs.declared.colour.Colour.{Colour}
 use Rattle.bayer.specs.declared.colour.Colour.the-variants.{Red, Green, Blue}
@@ -16,7 +16,7 @@ use Rattle.bayer.proofs.RefusalLaws.{off, neither}
 use Rattle.gbtf.specs.Weights.{scale, evenWeights}
 use Rattle.demosaic.specs.Sample.{sample}
 use Rattle.demosaic.proofs.FrameLocal.{piece-sample}
-use Rattle.green_rows.specs.Table.{table, joined}
+use Rattle.green_rows.specs.Table.{table}
 use Rattle.green_rows.proofs.TableLaws.{length-table, getD-table, table-same, length-joined, getD-joined, joined-same}
 use Rattle.strip.specs.Strip.{anyAbove, stripNumber, stripPlane, frameRows, left, Promise}
 

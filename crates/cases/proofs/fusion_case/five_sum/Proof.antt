@@ -1,5 +1,5 @@
 -- `cases::fusion_case::five_sum` is safe, and its answer is small. Assumes nothing.
-use Prim.Native.Nat.{_%_, _≤_}
+use Prim.Native.Nat.{_%_}
 use native.Mathlib.Nat.{le-trans}
 use native.Mathlib.Omega.{arith}
 use lib.Dec.{lit≤}

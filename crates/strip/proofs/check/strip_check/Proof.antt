@@ -7,7 +7,6 @@ use native.Mathlib.Omega.{arith}
 use borrow.Author.Needs.{needs}
 use borrow.Author.Tests.{eq-eqb, ne-eqb, ltb-false}
 use lib.Dec.{ltb, eqb}
-use lib.ListN.{length}
 use Rattle.bayer.specs.Condition.{frameCases}
 use Rattle.bayer.specs.Piece.{pieceRows}
 use Rattle.bayer.specs.Refusal.{firstOf}
