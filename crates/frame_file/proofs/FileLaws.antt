@@ -44,7 +44,7 @@ sized bytes e =
     let s = eqb-true (restLength bytes) (5 + 2 * frameOf bytes .width * frameOf bytes .height) (not-false fits (d .1)) in
     (omega (arith, length-drop 5 bytes), omega (arith, length-drop 5 bytes))
 
-pub length-readings : (bytes : List ℕ) → length (readings bytes) ≡ frameOf bytes .width * frameOf bytes .height
+length-readings : (bytes : List ℕ) → length (readings bytes) ≡ frameOf bytes .width * frameOf bytes .height
 unfolding readings
 length-readings bytes = length-table _ _
 

@@ -3,15 +3,15 @@ use mathlib.Core.Path.{_≡_, _∙_, ap, ap₂}
 use mathlib.Core.Bool.{Bool, true, false}
 use mathlib.Core.List.{List, [], _∷_}
 use Prim.Native.Nat.{ℕ, _+_, _*_, _/_, _^_, _≤_, _<_, min, max}
-use native.Mathlib.Nat.{le-refl, le-trans, lt-of-le-of-lt, mul-le-mul, mul-le-mul-left, mul-le-mul-right, mul-pos, div-le-of-le-mul, mul-div-cancel}
+use native.Mathlib.Nat.{le-refl, le-trans, lt-of-le-of-lt, mul-le-mul, mul-le-mul-left, mul-le-mul-right, mul-pos, div-le-of-le-mul}
 use native.Mathlib.Omega.{arith}
 use lib.Dec.{lit<}
-use lib.IntN.{ℤ, pos, negℤ, natAbs, _+ℤ_, _-ℤ_, _*ℤ_}
+use lib.IntN.{ℤ, pos, natAbs, _+ℤ_, _-ℤ_, _*ℤ_}
 use lib.ListN.{getD}
 use mir.Syntax.{w64}
 use Rattle.whole.specs.Floor.{floorDiv}
 use Rattle.whole.specs.Clamp.{clamp}
-use Rattle.whole.proofs.Pairs.{Pair, anyₚ, natₚ, _+ₚ_, _-ₚ_, negₚ, _*ₚ_, eq-by, within-by}
+use Rattle.whole.proofs.Pairs.{Pair, anyₚ, natₚ, _+ₚ_, _-ₚ_, _*ₚ_, eq-by, within-by}
 use Rattle.whole.proofs.FloorLaws.{floor-within}
 use Rattle.whole.proofs.Magnitudes.{sub-within}
 use Rattle.whole.proofs.Signed.{E, lit, nat, int, _⊕_, _⊗_, within}
@@ -32,10 +32,6 @@ pub difference-within : (green : Bool) {c l r p q : ℕ} → Readings c l r p q 
 unfolding difference
 difference-within false {c} {l} {r} {p} {q} h = within-by (differenceₚ false c l r p q) (omega arith) (omega arith)
 difference-within true {c} {l} {r} {p} {q} h = within-by (differenceₚ true c l r p q) (omega arith) (omega arith)
-
-pub difference-opposite : (c l r p q : ℕ) → difference true c l r p q ≡ negℤ (difference false c l r p q)
-unfolding difference
-difference-opposite c l r p q = eq-by (differenceₚ true c l r p q) (negₚ (differenceₚ false c l r p q)) (omega arith)
 
 pub gradient-within : (d e : ℤ) → natAbs d ≤ 16380 → natAbs e ≤ 16380 → gradient d e ≤ 32760
 gradient-within d e h k = sub-within d e h k
@@ -60,10 +56,6 @@ five-sum-even D =
 pub share-le : (K : ℕ) {m t : ℕ} → m ≤ t → share K m t ≤ K
 share-le K {m} {t} h = div-le-of-le-mul (t * t) (omega (arith, mul-le-mul-left K (mul-le-mul h h)))
 
--- the smallest sum has the whole share
-pub share-self : (K t : ℕ) → 0 < t → share K t t ≡ K
-share-self K t h = mul-div-cancel K (mul-pos h h)
-
 pub fusion-five : (N : ℤ) (S : ℕ) → fusion N S 5 ≡ floorDiv (pos 8 *ℤ N +ℤ pos (5 * S)) (10 * S)
 unfolding fusion
 fusion-five N S = let e : 2 * (5 * S) ≡ 10 * S = omega arith in rw e
@@ -77,15 +69,12 @@ module _ (N : ℤ) (S T : ℕ) (hN : natAbs N ≤ 2097152 * S) (hS : 0 < S) (hT 
   unfolding fusion
   fusion-within = floor-within (pos 8 *ℤ N +ℤ pos (T * S)) (2 * (T * S)) 16777216 (omega (arith, mul-pos hT hS)) dividend-within
 
--- ---- 64 bits, at the share scales 2^27 and 2^24
+-- ---- 64 bits
 fitting-to : (K B : ℕ) (d : Direction) → natAbs (d .differences) ≤ 2097152 → d .gradients ≤ B → 4 ≤ B → K * (B * B) < 18446744073709551616 → Fitting K d
 fitting-to K B d h g b l = let m : t d ≤ B = omega arith in record { sum = h; square = lt-of-le-of-lt (mul-le-mul-left K (mul-le-mul m m)) l }
 
 pub fitting : (d : Direction) → natAbs (d .differences) ≤ 81900 → d .gradients ≤ 294840 → Fitting (2 ^ 27) d
 fitting d h g = fitting-to (2 ^ 27) 294840 d (omega arith) g (omega arith) (lit< tt)
-
-pub fitting-24 : (d : Direction) → natAbs (d .differences) ≤ 1638000 → d .gradients ≤ 884520 → Fitting (2 ^ 24) d
-fitting-24 d h g = fitting-to (2 ^ 24) 884520 d (omega arith) g (omega arith) (lit< tt)
 
 -- ---- green
 four-directions : (K c : ℕ) (e w n s : Direction) →

@@ -1,15 +1,15 @@
 -- Laws of `floorDiv` and `clamp`. The floor f of z / d is the only one with f d ≤ z < (f + 1) d. Assumes nothing.
 use mathlib.Core.Path.{_≡_, refl, sym, _∙_, ap}
 use Prim.Native.Nat.{ℕ, suc, _+_, _*_, _-_, _/_, _≤_, _<_}
-use native.Mathlib.Nat.{div-add-mod', mod-lt, mul-pos, mul-le-mul-left, mul-le-mul-right, mul-lt-mul-of-pos-left, div-le-of-le-mul}
+use native.Mathlib.Nat.{div-add-mod', mod-lt, mul-le-mul-right, div-le-of-le-mul}
 use native.Mathlib.Decide.{decLe}
 use native.Mathlib.Omega.{arith}
-use lib.IntN.{ℤ, pos, negsuc, natAbs, _+ℤ_, _-ℤ_, _*ℤ_}
+use lib.IntN.{ℤ, pos, negsuc, natAbs, _+ℤ_, _-ℤ_}
 use lib.Signed.{shrZ}
 use Rattle.whole.specs.Parts.{up, down}
 use Rattle.whole.specs.Floor.{floorDiv}
 use Rattle.whole.specs.Clamp.{clamp}
-use Rattle.whole.proofs.Pairs.{anyₚ, natₚ, _+ₚ_, _-ₚ_, eq-by, eq-of, abs-by, up-times, down-times, +ℤ-up}
+use Rattle.whole.proofs.Pairs.{anyₚ, natₚ, _+ₚ_, _-ₚ_, eq-by, eq-of, abs-by, +ℤ-up}
 use Rattle.whole.proofs.Magnitudes.{up-le, down-le}
 
 pub floor-low : (z : ℤ) (d : ℕ) → 0 < d → up (floorDiv z d) * d + down z ≤ up z + down (floorDiv z d) * d
@@ -34,9 +34,6 @@ floor-unique z f d h l u =
     let a : up f + down g ≤ up g + down f = lt-of-mul _ _ d (omega (arith, floor-high z d h)) in
     let b : up g + down f ≤ up f + down g = lt-of-mul _ _ d (omega (arith, floor-low z d h)) in
     eq-by (anyₚ f) (anyₚ g) (omega arith)
-
-pub floor-times : (c : ℕ) (z : ℤ) (d : ℕ) → 0 < c → 0 < d → floorDiv (pos c *ℤ z) (c * d) ≡ floorDiv z d
-floor-times c z d hc hd = sym (floor-unique (pos c *ℤ z) (floorDiv z d) (c * d) (mul-pos hc hd) (rw (up-times c z, down-times c z) (omega (arith, mul-le-mul-left c (floor-low z d hd)))) (rw (up-times c z, down-times c z) (omega (arith, mul-lt-mul-of-pos-left (floor-high z d hd) hc))))
 
 -- k times the divisor, added, raises the floor by k
 pub floor-lift : (x : ℤ) (k d : ℕ) → 0 < d → floorDiv (x +ℤ pos (k * d)) d ≡ floorDiv x d +ℤ pos k
