@@ -13,7 +13,8 @@ use Rattle.bayer.specs.View.{rowOf}
 use Rattle.gbtf.specs.Direction.{directionSum}
 use Rattle.gbtf.proofs.PixelLaws.{difference-within, gradient-within, direction-sum-within}
 use Rattle.green_rows.specs.Table.{table, joined, part}
-use Rattle.green_rows.specs.Buffer.{differenceIn, gradientIn, windowIn, isOdd, AllAtMost, AllWithin}
+use Rattle.green_rows.specs.Directions.{windowIn}
+use Rattle.green_rows.specs.Buffer.{differenceIn, gradientIn, isOdd, AllAtMost, AllWithin}
 use Rattle.green_rows.specs.Extended.{extendedRow}
 use Rattle.green_rows.proofs.TableLaws.{table-all}
 
@@ -35,7 +36,7 @@ module _ {A : Type 0} (P : A → Type 0) (d : A) (past : P d) where
   pub all-part : (a n : ℕ) (l : List A) → All l → All (part a n l)
   all-part a n l h = all-take n (drop a l) (all-drop a l h)
 
-  pub all-append : (xs ys : List A) → All xs → All ys → All (xs ++ ys)
+  all-append : (xs ys : List A) → All xs → All ys → All (xs ++ ys)
   all-append [] ys h g k = g k
   all-append (x ∷ xs) ys h g zero = h 0
   all-append (x ∷ xs) ys h g (suc k) = all-append xs ys (λ j. h (suc j)) g k

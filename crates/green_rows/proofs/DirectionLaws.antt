@@ -13,7 +13,8 @@ use Rattle.gbtf.specs.Fusion.{green}
 use Rattle.gbtf.specs.Weights.{scale, evenWeights}
 use Rattle.gbtf.proofs.PixelLaws.{five-sum-within}
 use Rattle.green_rows.specs.Table.{table, joined}
-use Rattle.green_rows.specs.Buffer.{isOdd, windowIn, after, before, reversed, sumIn, fiveIn, directionFrom, fusedFrom, greenFrom, fusedIn, greenIn, AllAtMost, AllWithin}
+use Rattle.green_rows.specs.Directions.{windowIn, after, before, reversed, sumIn, fiveIn, directionIn, directionFrom}
+use Rattle.green_rows.specs.Buffer.{isOdd, fusedBy, greenFrom, greenIn, AllAtMost, AllWithin}
 use Rattle.green_rows.proofs.TableLaws.{table-same, table-all, parts, getD-parts}
 use Rattle.green_rows.proofs.BoundLaws.{all-joined, window-at-most}
 use Rattle.green_rows.proofs.RowLaws.{five-same}
@@ -65,13 +66,13 @@ module _ (s w : ℕ) (dh dv : List ℤ) where
       within (suc (suc (suc k))) j = five-sum-within evenWeights (after s dv (4 * s + (j + 7))) (λ i. b _)
 
 module _ (s odd : ℕ) (x : List ℕ) (dh dv : List ℤ) (gh gv : List ℕ) where
-  green-is : (j : ℕ) → j < length x → greenFrom scale (total evenWeights) odd x (sums s (length x) gh gv) (fives s (length x) dh dv) j ≡ greenIn scale evenWeights s odd x dh dv gh gv j
-  unfolding greenFrom fusedFrom greenIn fusedIn
-  green-is j h = λ i. cond (isOdd (j + odd)) (16 * getD x j 0) (green scale (total evenWeights) (getD x j 0) (d 0 (lit≤ tt) i) (d 1 (lit≤ tt) i ∷ d 2 (lit≤ tt) i ∷ d 3 (lit≤ tt) i ∷ []))
+  green-from-sums : (j : ℕ) → j < length x → greenFrom scale (total evenWeights) odd x (sums s (length x) gh gv) (fives s (length x) dh dv) j ≡ greenIn scale evenWeights s odd x dh dv gh gv j
+  unfolding greenFrom greenIn fusedBy
+  green-from-sums j h = λ i. cond (isOdd (j + odd)) (16 * getD x j 0) (green scale (total evenWeights) (getD x j 0) (d 0 (lit≤ tt) i) (d 1 (lit≤ tt) i ∷ d 2 (lit≤ tt) i ∷ d 3 (lit≤ tt) i ∷ []))
     where
-      d : (k : ℕ) → k < 4 → directionFrom (length x) (sums s (length x) gh gv) (fives s (length x) dh dv) j k ≡ direction (fiveIn evenWeights s dh dv k j) (sumIn s gh gv k j)
+      d : (k : ℕ) → k < 4 → directionFrom (length x) (sums s (length x) gh gv) (fives s (length x) dh dv) j k ≡ directionIn evenWeights s dh dv gh gv j k
       d k l = ap₂ direction (getD-parts (fiveIn evenWeights s dh dv) (length x) 4 k j (pos 0) l h) (getD-parts (sumIn s gh gv) (length x) 4 k j 0 l h)
 
-  pub row-is : {t : List ℕ} {f : List ℤ} (n : ℕ) → n ≡ length x → t ≡ sums s (length x) gh gv → f ≡ fives s (length x) dh dv
+  pub row-from-sums : {t : List ℕ} {f : List ℤ} (n : ℕ) → n ≡ length x → t ≡ sums s (length x) gh gv → f ≡ fives s (length x) dh dv
       → table (greenFrom scale (total evenWeights) odd x t f) n ≡ table (greenIn scale evenWeights s odd x dh dv gh gv) n
-  row-is n e p q = rw (p, q) (table-same _ _ n (λ j h. green-is j (omega arith)))
+  row-from-sums n e p q = rw (p, q) (table-same _ _ n (λ j h. green-from-sums j (omega arith)))

@@ -21,8 +21,12 @@ module _ {A : Type 0} where
   pub other-part : (n : ℕ) (p q : List A) {l : List A} → l ≡ p ++ q → length p ≡ n → take (length l - n) (drop n l) ≡ q
   other-part n p q e h = rw (e, drop-at p q n h) (take-all (length (p ++ q) - n) q (rw (length-append p q) (omega arith)))
 
+  -- ys in the places a to b of xs
+  abbrev pub placed : (a b : ℕ) (xs ys : List A) → List A
+  placed a b xs ys = take a xs ++ (ys ++ drop (b - a) (drop a xs))
+
   -- the others are handed on, and then hold r
-  pub put-rest : (n : ℕ) (p q r : List A) → length p ≡ n → take n (p ++ q) ++ (r ++ drop (length (p ++ q) - n) (drop n (p ++ q))) ≡ p ++ r
+  pub put-rest : (n : ℕ) (p q r : List A) → length p ≡ n → placed n (length (p ++ q)) (p ++ q) r ≡ p ++ r
   put-rest n p q r h =
       let l : length q ≤ length (p ++ q) - n = rw (length-append p q) (omega arith) in
       rw (take-at p q n h, drop-at p q n h, drop-of-length-le q l, append-nil r)

@@ -19,18 +19,19 @@ use Rattle.gbtf.specs.Fusion.{green}
 use Rattle.gbtf.specs.Mosaic.{Mosaic, continued}
 use Rattle.gbtf.specs.GreenAt.{differenceAlong, gradientAlong, isGreen, DH, DV, GH, GV, threeFrom, window, east, west, north, south, greenAt}
 use Rattle.green_rows.specs.Table.{table, joined}
-use Rattle.green_rows.specs.Buffer.{isOdd, startsGreen, differenceIn, gradientIn, threeIn, windowIn, after, before, eastIn, westIn, northIn, southIn, fusedIn, greenIn}
-use Rattle.green_rows.specs.Extended.{column, extendedRow, Lent}
+use Rattle.green_rows.specs.Directions.{threeIn, windowIn, directionIn}
+use Rattle.green_rows.specs.Buffer.{isOdd, startsGreen, differenceIn, gradientIn, fusedBy, greenIn}
+use Rattle.green_rows.specs.Extended.{extendedRow, Lent}
 use Rattle.bayer.proofs.MirrorLaws.{mirror-near, mirror-inside}
 use Rattle.green_rows.proofs.ParityLaws.{place-green, starts-below}
 use Rattle.green_rows.proofs.TableLaws.{length-table, getD-table, getD-joined}
 
 -- ---- positions: place n is position n − b
 
-pub ahead : (n b e : ℕ) → subℕ n b +ℤ pos e ≡ subℕ (n + e) b
+ahead : (n b e : ℕ) → subℕ n b +ℤ pos e ≡ subℕ (n + e) b
 ahead n b e = eq-by (subₚ n b +ₚ natₚ e) (subₚ (n + e) b) (omega arith)
 
-pub behind : (n b e : ℕ) → subℕ (n + e) b -ℤ pos e ≡ subℕ n b
+behind : (n b e : ℕ) → subℕ (n + e) b -ℤ pos e ≡ subℕ n b
 behind n b e = eq-by (subₚ (n + e) b -ₚ natₚ e) (subₚ n b) (omega arith)
 
 pub at-place : (n b : ℕ) → subℕ (n + b) b ≡ pos n
@@ -259,17 +260,17 @@ module _ (f : Frame) (first : ℕ) (rows : List ℕ) (v s : ℕ) (lent : Lent f 
         ∙ ap (λ y. GV m (subℕ y 6) (Col (j + 6 + e))) (let d : v + (i + r + 4) ≡ p + r = omega arith in d))
         ∙ ap (λ z. window (GV m) (subℕ p 6) z) (eq-by (subₚ (j + 6) 7) (natₚ j -ₚ natₚ 1) (omega arith))
 
-    east-is : eastIn K ws s dh′ dv′ gh′ gv′ j ≡ east ws m (pos v) (pos j)
+    east-is : directionIn ws s dh′ dv′ gh′ gv′ j 0 ≡ east ws m (pos v) (pos j)
     east-is = ap₂ direction
         (five-same ws _ _ (λ k l. (let a : s + (j + 7) + k * 1 ≡ 1 * s + (j + 5 + k + 2) = omega arith in ap (λ n. getD dh′ n (pos 0)) a) ∙ DH-at x hx x-at hx-at 1 (j + 5 + k) (lit≤ tt) (omega arith) ∙ ap₂ (DH m) here (onward k)))
         (ap directionSum (across (j + 6) (j + 4) (omega arith) (omega arith) ∙ ap (window (GH m) (pos v -ℤ pos 1)) (eq-by (subₚ (j + 4 + 3) 7) (natₚ j) (omega arith))))
 
-    west-is : westIn K ws s dh′ dv′ gh′ gv′ j ≡ west ws m (pos v) (pos j)
+    west-is : directionIn ws s dh′ dv′ gh′ gv′ j 1 ≡ west ws m (pos v) (pos j)
     west-is = ap₂ direction
         (five-same ws _ _ (λ k l. (let a : s + (j + 7) - k * 1 ≡ 1 * s + (j + 5 - k + 2) = omega arith in ap (λ n. getD dh′ n (pos 0)) a) ∙ DH-at x hx x-at hx-at 1 (j + 5 - k) (lit≤ tt) (omega arith) ∙ ap₂ (DH m) here (back k l)))
         (ap directionSum (across (j + 4) (j + 2) (omega arith) (omega arith) ∙ ap (window (GH m) (pos v -ℤ pos 1)) (eq-by (subₚ (j + 2 + 3) 7) (natₚ j -ₚ natₚ 2) (omega arith))))
 
-    north-is : northIn K ws s dh′ dv′ gh′ gv′ j ≡ north ws m (pos v) (pos j)
+    north-is : directionIn ws s dh′ dv′ gh′ gv′ j 2 ≡ north ws m (pos v) (pos j)
     north-is = ap₂ direction
         (five-same ws _ _ (λ k l. (let a : 4 * s + (j + 7) - k * s ≡ (4 - k) * s + (j + 7) = up-rows k l in ap (λ n. getD dv′ n (pos 0)) a) ∙ DV-at x x-at dvs (4 - k) (j + 7) (omega arith) (omega arith) (omega arith)
         ∙ ap₂ (DV m) (eq-by (subₚ (v + (4 - k + 2)) 6) (natₚ v -ₚ natₚ k) (omega arith)) (at-place j 7)))
@@ -278,7 +279,7 @@ module _ (f : Frame) (first : ℕ) (rows : List ℕ) (v s : ℕ) (lent : Lent f 
         up-rows : (k : ℕ) → k ≤ 4 → 4 * s + (j + 7) - k * s ≡ (4 - k) * s + (j + 7)
         up-rows k l = let e : 4 ≡ (4 - k) + k = omega arith in omega (arith, ap (λ n. n * s) e)
 
-    south-is : southIn K ws s dh′ dv′ gh′ gv′ j ≡ south ws m (pos v) (pos j)
+    south-is : directionIn ws s dh′ dv′ gh′ gv′ j 3 ≡ south ws m (pos v) (pos j)
     south-is = ap₂ direction
         (five-same ws _ _ (λ k l. (let a : 4 * s + (j + 7) + k * s ≡ (4 + k) * s + (j + 7) = omega arith in ap (λ n. getD dv′ n (pos 0)) a) ∙ DV-at x x-at dvs (4 + k) (j + 7) (omega arith) (omega arith) (omega arith)
         ∙ ap₂ (DV m) (eq-by (subₚ (v + (4 + k + 2)) 6) (natₚ v +ₚ natₚ k) (omega arith)) (at-place j 7)))
@@ -292,7 +293,7 @@ module _ (f : Frame) (first : ℕ) (rows : List ℕ) (v s : ℕ) (lent : Lent f 
     own-at = ap₂ (λ a b. getD (rowOf (f .width) (a - first) rows) b 0) (sym (mirror-inside (f .height) v (lent .row))) (sym (mirror-inside (f .width) j hj))
 
     pub green-is : greenIn K ws s g own dh′ dv′ gh′ gv′ j ≡ greenAt ws m (pos v) (pos j) K
-    unfolding greenIn fusedIn greenAt
+    unfolding greenIn fusedBy greenAt
     green-is = λ t. cond (parity t) (16 * own-at t) (green K (total ws) (own-at t) (east-is t) (west-is t ∷ north-is t ∷ south-is t ∷ []))
       where
         parity : isOdd (j + g) ≡ isGreen m (pos v) (pos j)

@@ -3,14 +3,14 @@ use Prim.Native.Nat.{ℕ, zero, suc, _+_, _-_, _*_, _≤_, _<_}
 use mathlib.Core.Path.{_≡_, refl, sym, subst, ap, ap₂, _∙_}
 use mathlib.Core.List.{List, [], _∷_, _++_, append-assoc, append-nil}
 use native.Mathlib.Decide.{decLe}
-use native.Mathlib.Nat.{add-zero, add-suc, suc-mul, add-mul, not-suc-le-zero, zero-mul, add-sub-cancel-left, le-antisymm, le-of-eq, le-refl, mul-le-mul-right}
+use native.Mathlib.Nat.{add-zero, add-suc, suc-mul, add-mul, not-suc-le-zero, zero-mul, one-mul, add-sub-cancel-left, le-antisymm, le-of-eq, le-refl, mul-le-mul-right}
 use native.Mathlib.Numerals.{add-one}
 use native.Mathlib.Omega.{arith}
 use lib.Dec.{lit≤}
 use lib.ListN.{length, take, drop, getD, set, length-append, drop-of-length-le, length-drop, length-set, List·getD-append, List·getD-eq-default}
 use lib.Seq.{drop-cons, set-at, append-snoc, take-at, drop-at, drop-drop, getD-at, getD-append-add, ext-getD}
 use Rattle.green_rows.specs.Table.{table, joined, part}
-use Rattle.green_rows.proofs.PartLaws.{part-length}
+use Rattle.green_rows.proofs.PartLaws.{part-length, placed}
 
 module _ {A : Type 0} where
   pub length-table : (f : ℕ → A) (n : ℕ) → length (table f n) ≡ n
@@ -68,7 +68,7 @@ module _ {A : Type 0} where
   unfolding table
   table-none f d = refl
 
-  pub table-store : (f : ℕ → A) (i : ℕ) (d : List A) → i < length d → set (table f i ++ drop i d) i (f i) ≡ table f (i + 1) ++ drop (i + 1) d
+  table-store : (f : ℕ → A) (i : ℕ) (d : List A) → i < length d → set (table f i ++ drop i d) i (f i) ≡ table f (i + 1) ++ drop (i + 1) d
   unfolding table
   table-store f i d h =
       rw (add-one i, drop-cons d i (f i) h)
@@ -91,13 +91,13 @@ module _ {A : Type 0} where
   joined-same f g zero h = refl
   joined-same f g (suc n) h = ap₂ (λ (l m : List A). l ++ m) (joined-same f g n (λ i k. h i (omega arith))) (h n (omega arith))
 
-  pub joined-append : (f : ℕ → List A) (m n : ℕ) → joined f (m + n) ≡ joined f m ++ joined (λ k. f (m + k)) n
+  joined-append : (f : ℕ → List A) (m n : ℕ) → joined f (m + n) ≡ joined f m ++ joined (λ k. f (m + k)) n
   unfolding joined
   joined-append f m zero = rw (add-zero, append-nil)
   joined-append f m (suc n) = rw add-suc (ap (λ (l : List A). l ++ f (m + n)) (joined-append f m n) ∙ append-assoc (joined f m) (joined (λ k. f (m + k)) n) (f (m + n)))
 
   -- a part of k places is handed on, after those that hold p, and then holds q
-  put-part : (n k : ℕ) (p q d : List A) → length p ≡ n → take n (p ++ drop n d) ++ (q ++ drop (n + k - n) (drop n (p ++ drop n d))) ≡ (p ++ q) ++ drop (n + k) d
+  put-part : (n k : ℕ) (p q d : List A) → length p ≡ n → placed n (n + k) (p ++ drop n d) q ≡ (p ++ q) ++ drop (n + k) d
   put-part n k p q d h = rw (take-at p (drop n d) n h, drop-at p (drop n d) n h, add-sub-cancel-left n k, drop-drop k n d) (sym (append-assoc p q (drop (n + k) d)))
 
 -- part i of n, each w places long, lies among them
@@ -133,22 +133,14 @@ module _ {A : Type 0} (f : ℕ → List A) (w : ℕ) (rows : (j : ℕ) → lengt
   joined-none d = rw zero-mul
 
   pub joined-turns : (i b n : ℕ) (d : List A) {xs ys : List A} → i + b ≤ n → length d ≡ n * w → Handed i d xs → ys ≡ joined (λ k. f (i + k)) b
-      → Handed (i + b) d (take (i * w) xs ++ (ys ++ drop (i * w + b * w - i * w) (drop (i * w) xs)))
+      → Handed (i + b) d (placed (i * w) (i * w + b * w) xs ys)
   joined-turns i b n d {xs} {ys} h e p q =
-      let zs : List A = take (i * w) xs ++ (ys ++ drop (i * w + b * w - i * w) (drop (i * w) xs)) in
-      let t : zs ≡ joined f (i + b) ++ drop ((i + b) * w) d = rw (p .0, q, joined-append f i b, add-mul i b w) (put-part (i * w) (b * w) (joined f i) (joined (λ k. f (i + k)) b) d (length-joined i)) in
+      let t : placed (i * w) (i * w + b * w) xs ys ≡ joined f (i + b) ++ drop ((i + b) * w) d = rw (p .0, q, joined-append f i b, add-mul i b w) (put-part (i * w) (b * w) (joined f i) (joined (λ k. f (i + k)) b) d (length-joined i)) in
       (t, ap length t ∙ simp (length-append, length-joined, length-drop) (omega (arith, e, mul-le-mul-right w h)))
 
-  one-more : (i : ℕ) → joined f i ++ f i ≡ joined f (i + 1)
-  unfolding joined
-  one-more i = rw add-one
-
   pub joined-turn : (i n : ℕ) (d : List A) {xs ys : List A} → i < n → length d ≡ n * w → Handed i d xs → ys ≡ f i
-      → Handed (i + 1) d (take (i * w) xs ++ (ys ++ drop (i * w + w - i * w) (drop (i * w) xs)))
-  joined-turn i n d {xs} {ys} h e p q =
-      let zs : List A = take (i * w) xs ++ (ys ++ drop (i * w + w - i * w) (drop (i * w) xs)) in
-      let t : zs ≡ joined f (i + 1) ++ drop ((i + 1) * w) d = rw (p .0, q, ← one-more i, add-one i, suc-mul i w) (put-part (i * w) w (joined f i) (f i) d (length-joined i)) in
-      (t, ap length t ∙ simp (length-append, length-joined, length-drop, add-one, suc-mul) (omega (arith, part-within w h)))
+      → Handed (i + 1) d (placed (i * w) (i * w + w) xs ys)
+  joined-turn i n d h e p q = rw one-mul at (joined-turns i 1 n d (omega arith) e p (q ∙ sym (joined-one (λ k. f (i + k)) ∙ ap f (add-zero i))))
 
   pub joined-done : (i n : ℕ) (d : List A) → i ≤ n → n ≤ i → length d ≡ n * w → joined f i ++ drop (i * w) d ≡ joined f n
   joined-done i n d h k e = rw (le-antisymm h k, drop-of-length-le d {i = n * w} (le-of-eq e), append-nil (joined f n))
@@ -161,16 +153,12 @@ joined-rows f w rows m i n h =
     ∙ rw (joined-append f i (n + (m - (i + n))), drop-at (joined f i) (joined (λ k. f (i + k)) (n + (m - (i + n)))) (i * w) (length-joined f w rows i), joined-append (λ k. f (i + k)) n (m - (i + n)))
     (take-at (joined (λ k. f (i + k)) n) _ (n * w) (length-joined (λ k. f (i + k)) w (λ k. rows (i + k)) n))
 
--- ys in the places a to b of xs
-abbrev pub put : {A : Type 0} (a b : ℕ) (xs ys : List A) → List A
-put a b xs ys = take a xs ++ (ys ++ drop (b - a) (drop a xs))
-
 -- parts of w entries, part k by rule k
 module _ {A : Type 0} (rule : ℕ → ℕ → A) (w : ℕ) where
   abbrev pub parts : ℕ → List A
   parts k = table (rule k) w
 
-  pub parts-length : (k : ℕ) → length (parts k) ≡ w
+  parts-length : (k : ℕ) → length (parts k) ≡ w
   parts-length k = length-table (rule k) w
 
   pub getD-parts : (n k j : ℕ) (d : A) → k < n → j < w → getD (joined parts n) (k * w + j) d ≡ rule k j
@@ -178,22 +166,22 @@ module _ {A : Type 0} (rule : ℕ → ℕ → A) (w : ℕ) where
 
   -- part i, from place a to place b, is handed on, and then holds what another rule gives, which agrees
   parts-turn : (i n a b : ℕ) (d : List A) {xs ys : List A} {r : ℕ → A} → a ≡ i * w → b ≡ i * w + w → i < n → length d ≡ n * w → Handed parts w parts-length i d xs
-      → ys ≡ table r (length (take (b - a) (drop a xs))) → ((j : ℕ) → r j ≡ rule i j) → Handed parts w parts-length (i + 1) d (put a b xs ys)
+      → ys ≡ table r (length (take (b - a) (drop a xs))) → ((j : ℕ) → r j ≡ rule i j) → Handed parts w parts-length (i + 1) d (placed a b xs ys)
   parts-turn i n a b d {xs} {ys} {r} p q h e t y s =
       let k : length (take (b - a) (drop a xs)) ≡ w = rw (q, p) (part-length (i * w) w xs (omega (arith, part-within w h, t .1))) in
       rw (q, p) (joined-turn parts w parts-length i n d h e t (y ∙ ap (table r) k ∙ table-same r (rule i) w (λ j _. s j)))
 
   -- four parts, each handed on in turn
   pub four-parts : (d : List A) {a b c e : List A} {p q r s : ℕ → A} →
-      let d₁ = put 0 w d a in
-      let d₂ = put w (2 * w) d₁ b in
-      let d₃ = put (2 * w) (3 * w) d₂ c in
+      let d₁ = placed 0 w d a in
+      let d₂ = placed w (2 * w) d₁ b in
+      let d₃ = placed (2 * w) (3 * w) d₂ c in
       length d ≡ 4 * w
       → a ≡ table p (length (take (w - 0) d)) → ((j : ℕ) → p j ≡ rule 0 j)
       → b ≡ table q (length (take (2 * w - w) (drop w d₁))) → ((j : ℕ) → q j ≡ rule 1 j)
       → c ≡ table r (length (take (3 * w - 2 * w) (drop (2 * w) d₂))) → ((j : ℕ) → r j ≡ rule 2 j)
       → e ≡ table s (length (take (4 * w - 3 * w) (drop (3 * w) d₃))) → ((j : ℕ) → s j ≡ rule 3 j)
-      → put (3 * w) (4 * w) d₃ e ≡ joined parts 4
+      → placed (3 * w) (4 * w) d₃ e ≡ joined parts 4
   four-parts d l a-is p b-is q c-is r e-is s =
       let h₁ = parts-turn 0 4 0 w d (omega arith) (omega arith) (lit≤ tt) l (joined-none parts w parts-length d, refl) a-is p in
       let h₂ = parts-turn 1 4 w (2 * w) d (omega arith) (omega arith) (lit≤ tt) l h₁ b-is q in

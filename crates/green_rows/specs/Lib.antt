@@ -1,3 +1,4 @@
 pub mod Table
+pub mod Directions
 pub mod Buffer
 pub mod Extended

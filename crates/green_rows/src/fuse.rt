@@ -4,7 +4,8 @@ ghost use lib.ListN.{length};
 ghost use Rattle.green_rows.specs.Table.{table};
 ghost use Rattle.gbtf.specs.Direction.{total};
 ghost use Rattle.gbtf.specs.Weights.{scale, evenWeights};
-ghost use Rattle.green_rows.specs.Buffer.{directionFrom, fusedFrom, greenFrom, greenIn, AllAtMost, AllWithin};
+ghost use Rattle.green_rows.specs.Directions.{directionFrom};
+ghost use Rattle.green_rows.specs.Buffer.{fusedBy, greenFrom, greenIn, AllAtMost, AllWithin};
 use crate::directions::row_fives;
 use crate::directions::row_sums;
 use crate::weights::SCALE;
@@ -27,7 +28,7 @@ fn direction_at(w: usize, t: &[u32], f: &[i32], k: usize, j: usize) -> Direction
 // Green at a red or blue pixel of reading c, column j.
 fn green_at(c: u16, w: usize, t: &[u32], f: &[i32], j: usize) -> u16
     requires { ⌜ (j < w) × (length (now t) ≡ 4 * w) × (length (now f) ≡ 4 * w) × (AllAtMost 294840 (now t)) × (AllWithin 81900 (now f)) ⌝ }
-    ensures { λ r. ⌜ r ≡ fusedFrom scale (total evenWeights) w (now (t .entry)) (now (f .entry)) j c ⌝ }
+    ensures { λ r. ⌜ r ≡ fusedBy scale (total evenWeights) c (directionFrom w (now (t .entry)) (now (f .entry)) j) ⌝ }
 {
     let east = direction_at(w, t, f, 0, j);
     let west = direction_at(w, t, f, 1, j);

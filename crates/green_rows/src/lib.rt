@@ -1,4 +1,4 @@
-// Green a row at a time, from a buffer of rows of readings.
+// Green of a row, from buffers of differences and gradients.
 pub mod along;
 pub mod directions;
 pub mod extend;

@@ -3,7 +3,8 @@ ghost use Prim.Native.Nat.{_+_, _*_, _≤_, _<_};
 ghost use lib.ListN.{length};
 ghost use Rattle.gbtf.specs.Direction.{directionSum, fiveSum, total};
 ghost use Rattle.green_rows.specs.Table.{table};
-ghost use Rattle.green_rows.specs.Buffer.{windowIn, after, AllAtMost, AllWithin};
+ghost use Rattle.green_rows.specs.Directions.{windowIn, after};
+ghost use Rattle.green_rows.specs.Buffer.{AllAtMost, AllWithin};
 use gbtf::direction::direction_sum;
 use gbtf::direction::five_sum;
 

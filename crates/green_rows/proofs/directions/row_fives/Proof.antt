@@ -3,7 +3,7 @@ use native.Mathlib.Omega.{arith}
 use mathlib.Core.Path.{_≡_}
 use lib.Dec.{lit≤}
 use Rattle.gbtf.specs.Weights.{evenWeights}
-use Rattle.green_rows.specs.Buffer.{fiveIn, reversed}
+use Rattle.green_rows.specs.Directions.{fiveIn, reversed}
 use Rattle.green_rows.proofs.TableLaws.{four-parts}
 use Rattle.green_rows.proofs.DirectionLaws.{five-after, five-before}
 use borrow.Author.Needs.{needs}

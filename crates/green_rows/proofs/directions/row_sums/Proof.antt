@@ -1,6 +1,6 @@
 -- `green_rows::directions::row_sums` meets its contract: each call fills one of the four parts. Assumes nothing.
 use native.Mathlib.Omega.{arith}
-use Rattle.green_rows.specs.Buffer.{sumIn}
+use Rattle.green_rows.specs.Directions.{sumIn}
 use Rattle.green_rows.proofs.TableLaws.{four-parts}
 use Rattle.green_rows.proofs.DirectionLaws.{sum-at}
 use borrow.Author.Needs.{needs}

@@ -2,7 +2,7 @@
 use native.Mathlib.Omega.{arith}
 use mathlib.Core.Path.{_∙_}
 use lib.ListN.{length}
-use Rattle.green_rows.proofs.DirectionLaws.{row-is, sums-at-most, fives-within}
+use Rattle.green_rows.proofs.DirectionLaws.{row-from-sums, sums-at-most, fives-within}
 use borrow.Author.Needs.{needs}
 use Rattle.green_rows.proofs.fuse.fuse.Statement.{statement}
 use Rattle.green_rows.proofs.fuse.fuse.Tie as tie
@@ -49,7 +49,7 @@ returns c =
     let e = c .before .before .before .before .before .before .before in
     let k = start e in
     let a = k .args in
-    c .before .before .fuse-row .ensures ∙ row-is (a .s) (a .odd) (a .x .now) (a .dh .now) (a .dv .now) (a .gh .now) (a .gv .now) _ (k .pre .0 .2) (sums e .row-sums .ensures) (e .row-fives .ensures)
+    c .before .before .fuse-row .ensures ∙ row-from-sums (a .s) (a .odd) (a .x .now) (a .dh .now) (a .dv .now) (a .gh .now) (a .gv .now) _ (k .pre .0 .2) (sums e .row-sums .ensures) (e .row-fives .ensures)
 
 pub fuse-spec : {M : Type 1} → statement M
 fuse-spec =

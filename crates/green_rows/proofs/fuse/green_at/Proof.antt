@@ -6,7 +6,8 @@ use Rattle.gbtf.specs.declared.direction.Direction.{Direction}
 use Rattle.gbtf.specs.Fusion.{Fitting}
 use Rattle.gbtf.specs.Weights.{scale}
 use Rattle.gbtf.proofs.PixelLaws.{fitting}
-use Rattle.green_rows.specs.Buffer.{directionFrom, fusedFrom}
+use Rattle.green_rows.specs.Directions.{directionFrom}
+use Rattle.green_rows.specs.Buffer.{fusedBy}
 use borrow.Author.Needs.{needs}
 use Rattle.green_rows.proofs.fuse.green_at.Statement.{statement}
 use Rattle.green_rows.proofs.fuse.green_at.Tie as tie
@@ -36,7 +37,7 @@ green-requires c κs =
     ((omega arith, omega arith, omega arith), (fits s 0 (c₁ .direction-at .ensures), fits s 1 (c₂ .direction-at2 .ensures), fits s 2 (c₃ .direction-at3 .ensures), fits s 3 (c .direction-at4 .ensures)))
 
 returns : tie.Need-returns
-unfolding fusedFrom
+unfolding fusedBy
 returns c = c .green .ensures ∙ rw (c .before .before .before .before .direction-at .ensures, c .before .before .before .direction-at2 .ensures, c .before .before .direction-at3 .ensures, c .before .direction-at4 .ensures)
 
 pub green-at-spec : {M : Type 1} → statement M

@@ -8,7 +8,7 @@ use mir.Syntax.{w32, w64}
 use Rattle.whole.proofs.Signed.{E, int, «as», asked, value}
 use Rattle.gbtf.specs.Direction.{fiveSum}
 use Rattle.gbtf.proofs.PixelLaws.{five-sum-within}
-use Rattle.green_rows.specs.Buffer.{after}
+use Rattle.green_rows.specs.Directions.{after}
 use Rattle.green_rows.proofs.ReadLaws.{read-at, five-same}
 use borrow.Author.Needs.{needs}
 use Rattle.green_rows.proofs.sums.five_at.Statement.{statement}

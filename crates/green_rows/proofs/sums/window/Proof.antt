@@ -3,7 +3,7 @@ use Prim.Native.Nat.{ℕ, _+_, _*_}
 use native.Mathlib.Omega.{arith}
 use mathlib.Core.List.{[], _∷_}
 use mathlib.Core.Path.{_≡_, ap}
-use Rattle.green_rows.specs.Buffer.{threeIn}
+use Rattle.green_rows.specs.Directions.{threeIn}
 use Rattle.green_rows.proofs.sums.window.Statement.{statement}
 use Rattle.green_rows.proofs.sums.window.Tie as tie
 
