@@ -1,5 +1,5 @@
 -- `frame_file::statistics::sum_of` meets its contract: the sum so far, joined with the samples from i on, is the sum. Assumes nothing.
-use Prim.Native.Nat.{_≤_, _-_, _*_}
+use Prim.Native.Nat.{_≤_, _-_, _+_, _*_}
 use mathlib.Core.Path.{_≡_, refl, sym, _∙_}
 use native.Mathlib.Omega.{arith}
 use lib.ListN.{length, drop}

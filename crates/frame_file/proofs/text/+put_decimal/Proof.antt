@@ -1,5 +1,5 @@
 -- `frame_file::text::put_decimal` meets its contract: the digits of a tenth of n, and then the last one. n falls. Assumes nothing.
-use Prim.Native.Nat.{ℕ}
+use Prim.Native.Nat.{ℕ, _<_}
 use native.Mathlib.Omega.{arith}
 use native.Mathlib.Nat.{div-lt-self}
 use borrow.Fn.Kinds.{In}
