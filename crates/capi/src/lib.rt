@@ -5,7 +5,7 @@ ghost use lib.ListN.{length};
 ghost use Rattle.bayer.specs.Colour.{partner};
 ghost use Rattle.bayer.specs.Piece.{pieceStart, pieceRows};
 ghost use Rattle.bayer.specs.View.{rowOf, rowViewNumber, partnerViewNumber, shown, shownFrom, planeOf};
-ghost use Rattle.strip.specs.Strip.{stripNumber, Promise, three};
+ghost use Rattle.strip.specs.Strip.{stripNumber, Promise, threePlanes};
 ghost use Rattle.capi.specs.Call.{frameOf, planeNumber};
 use bayer::colour::Colour;
 use bayer::colour::partner;
@@ -51,7 +51,7 @@ pub extern "C" fn rokzimp_strip(
     green: &mut [u16],
     blue: &mut [u16],
 ) -> u32
-    ensures { λ r. ⌜ Promise (frameOf width height layout) a n (now (piece .entry)) (three (now (red .entry)) (now (green .entry)) (now (blue .entry))) r (three (now (red .exit)) (now (green .exit)) (now (blue .exit))) ⌝ }
+    ensures { λ r. ⌜ Promise (frameOf width height layout) a n (now (piece .entry)) (threePlanes (now (red .entry)) (now (green .entry)) (now (blue .entry))) r (threePlanes (now (red .exit)) (now (green .exit)) (now (blue .exit))) ⌝ }
 {
     let frame = Frame::new(width, height, layout);
     strip(frame, a, n, piece, red, green, blue)

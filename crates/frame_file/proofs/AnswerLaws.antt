@@ -7,7 +7,7 @@ use lib.ListN.{length}
 use Rattle.bayer.specs.declared.colour.Colour.{Colour}
 use Rattle.bayer.specs.declared.colour.Colour.the-variants.{Red, Green, Blue}
 use Rattle.bayer.specs.declared.frame.Frame.{Frame}
-use Rattle.strip.specs.Strip.{stripPlane, left, Promise}
+use Rattle.strip.specs.Strip.{stripPlane, heldAfter, Promise}
 use Rattle.frame_file.specs.Text.{refusalLine}
 use Rattle.frame_file.specs.FrameFile.{frameOf, readings, malformed, fileNumber, framePlane, lines, answered, output}
 use Rattle.frame_file.proofs.FileLaws.{torn, number-is, plane-is}
@@ -38,8 +38,8 @@ module _ (bytes : List ℕ) (well : malformed bytes ≡ false) (f : Frame) (e : 
   unfolding output
   refused h = rw (← numbered) (refuses number _ h)
 
-  filled : (k : Colour) {plane : List ℕ} → number ≡ 0 → plane ≡ left number (stripPlane f 0 (f .height) piece k) (lent k) → plane ≡ framePlane (frameOf bytes) (readings bytes) k
-  unfolding left
+  filled : (k : Colour) {plane : List ℕ} → number ≡ 0 → plane ≡ heldAfter number (stripPlane f 0 (f .height) piece k) (lent k) → plane ≡ framePlane (frameOf bytes) (readings bytes) k
+  unfolding heldAfter
   filled k z h = h ∙ rw (z, e, m) (plane-is (frameOf bytes) (readings bytes) k)
 
   pub delivered : number ≡ 0 → output bytes ≡ lines after

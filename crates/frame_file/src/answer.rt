@@ -2,7 +2,7 @@ ghost use mathlib.Core.Path.{_≡_};
 ghost use mathlib.Core.Bool.{false};
 ghost use Prim.Native.Nat.{_*_, _≤_};
 ghost use lib.ListN.{length};
-ghost use Rattle.strip.specs.Strip.{three};
+ghost use Rattle.strip.specs.Strip.{threePlanes};
 ghost use Rattle.frame_file.specs.Text.{Printed, Answered};
 ghost use Rattle.frame_file.specs.FrameFile.{frameOf, malformed, lines, output};
 use crate::file::frame_of;
@@ -16,7 +16,7 @@ use strip::strip::strip;
 
 fn put_lines(red: &[u16], green: &[u16], blue: &[u16], out: &mut [u8]) -> usize
     requires { ⌜ (length (now red) ≤ 4096) × (length (now green) ≤ 4096) × (length (now blue) ≤ 4096) × (105 ≤ length (now out)) ⌝ }
-    ensures { λ r. ⌜ Printed (lines (three (now (red .entry)) (now (green .entry)) (now (blue .entry)))) 0 (now (out .entry)) (now (out .exit)) r × (r ≤ 105) ⌝ }
+    ensures { λ r. ⌜ Printed (lines (threePlanes (now (red .entry)) (now (green .entry)) (now (blue .entry)))) 0 (now (out .entry)) (now (out .exit)) r × (r ≤ 105) ⌝ }
 {
     let a = put_plane_line(b'R', red, out, 0);
     let b = put_plane_line(b'G', green, out, a);

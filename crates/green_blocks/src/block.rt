@@ -17,7 +17,7 @@ use bayer::frame::Frame;
 use green_rows::along::differences;
 use green_rows::along::gradients;
 use green_rows::fuse::fuse;
-use green_rows::row::starts_green;
+use green_rows::parity::starts_green;
 
 // The differences along the b + 2 rows in the middle of the readings, and then along the columns of the b + 8 in the middle.
 fn all_differences(x: &[u16], s: usize, m: usize, odd: usize, d: &mut [i32])

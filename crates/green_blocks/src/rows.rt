@@ -10,7 +10,14 @@ ghost use Rattle.green_rows.specs.Buffer.{AllAtMost};
 ghost use Rattle.green_rows.specs.Extended.{Lent};
 use crate::block::green_block;
 use bayer::frame::Frame;
-use green_rows::row::stride;
+
+// How many places a buffer has for a row of w readings: from column -7 to column w + 6, and one more if that makes them odd.
+fn stride(w: usize) -> usize
+    requires { ⌜ w ≤ 4096 ⌝ }
+    ensures { λ s. ⌜ (s % 2 ≡ 1) × (w + 14 ≤ s) × (s ≤ w + 15) ⌝ }
+{
+    if w % 2 == 0 { w + 15 } else { w + 14 }
+}
 
 // The rows of a block: more would make the buffers larger and save little.
 fn block_size(n: usize) -> usize

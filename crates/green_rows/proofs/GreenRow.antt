@@ -19,7 +19,7 @@ use Rattle.green_rows.specs.Buffer.{startsGreen, differenceIn, gradientI
 use Rattle.green_rows.specs.Extended.{extendedRow, Lent}
 use Rattle.green_rows.proofs.TableLaws.{table-same}
 use Rattle.green_rows.proofs.PartLaws.{getD-part}
-use Rattle.green_rows.proofs.RowLaws.{at-place, read-at, green-is}
+use Rattle.green_rows.proofs.RowLaws.{at-place, reading-at, green-is}
 
 -- row v is among the rows that are lent
 module _ {f : Frame} {first n v : ℕ} (lent : Lent f first n v) where
@@ -48,7 +48,7 @@ pub record Given (f : Frame) (first : ℕ) (rows : List ℕ) (v s o : ℕ) (x : 
 
 module _ {f : Frame} {first : ℕ} {rows : List ℕ} {v s o : ℕ} {x : List ℕ} {dh dv : List ℤ} {gh gv : List ℕ} (z : Given f first rows v s o x dh dv gh gv) where
   x-at : (r c : ℕ) → r < 13 → c < s → getD x (r * s + c) 0 ≡ continued f first rows .reading (subℕ (v + r) 6) (subℕ c 7)
-  x-at r c h k = ap (λ l. getD l (r * s + c) 0) (z .readings) ∙ read-at f first rows v s (z .lent) (z .known) (z .wide) (z .narrow) (z .odd) r c h k
+  x-at r c h k = ap (λ l. getD l (r * s + c) 0) (z .readings) ∙ reading-at f first rows v s (z .lent) (z .known) (z .wide) (z .narrow) (z .odd) r c h k
 
   pub fused : table (greenIn scale evenWeights s o (rowOf (f .width) (v - first) rows) dh dv gh gv) (f .width)
       ≡ table (λ j. greenAt evenWeights (continued f first rows) (pos v) (pos j) scale) (f .width)

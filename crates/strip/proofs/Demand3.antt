@@ -27,7 +27,7 @@ use Rattle.demosaic.specs.Sample.{otherFrom, sampleFrom, sample}
 use Rattle.demosaic.specs.Exact.{exactSample, printed}
 use Rattle.demosaic.proofs.SampleError.{printed-error}
 use Rattle.demosaic.proofs.FrameLocal.{piece-sample, piece-exactSample}
-use Rattle.strip.specs.Strip.{stripPlane, left, Promise, three}
+use Rattle.strip.specs.Strip.{stripPlane, heldAfter, Promise, threePlanes}
 use Rattle.strip.specs.Demand.{StripCall, numberOf, Accepted, OfFrame, Called, CalledAll, CoveredBy, Demanded}
 use Rattle.strip.proofs.StripLaws.{Fits, fits, plane-length, plane-at, promised}
 
@@ -59,12 +59,12 @@ module _ (f : Frame) (readings : List ℕ) where
 
   -- the code's contract is all that a call of a list needs
   pub called : (c : StripCall) (p : Planes) {answer : ℕ} {red green blue : List ℕ} → (Accepted c → OfFrame f readings c) → ((k : Colour) → c .from k + c .size k ≤ length (p k))
-      → Promise (c .frame) (c .first) (c .count) (c .piece) (three (lent c p Red) (lent c p Green) (lent c p Blue)) answer (three red green blue) → Called f readings c p (λ k. put (c .from k) (three red green blue k) (p k))
+      → Promise (c .frame) (c .first) (c .count) (c .piece) (threePlanes (lent c p Red) (lent c p Green) (lent c p Blue)) answer (threePlanes red green blue) → Called f readings c p (λ k. put (c .from k) (threePlanes red green blue k) (p k))
   called c p {answer} {red} {green} {blue} premise inside promise = record {
     premise = premise;
     inside = inside;
     answer = answer;
-    after = three red green blue;
+    after = threePlanes red green blue;
     promise = record { number = promise .number; red = promise .red; green = promise .green; blue = promise .blue };
     rest = λ k. refl;
   }
@@ -81,9 +81,9 @@ module _ (f : Frame) (readings : List ℕ) where
 
   -- an accepted call delivers the rule's rows
   delivered : (c : StripCall) {p q : Planes} (d : Called f readings c p q) → Accepted c → (o : OfFrame f readings c) → (k : Colour) → d .after k ≡ stripPlane f (c .first) (c .count) (pieceOf (f .width) (f .height) (c .first) (c .count) readings) k
-  unfolding left
+  unfolding heldAfter
   delivered c {p} d e o k =
-      promised (d .promise) k ∙ ap (λ n. left n (stripPlane (c .frame) (c .first) (c .count) (c .piece) k) (lent c p k)) (answers c d ∙ e)
+      promised (d .promise) k ∙ ap (λ n. heldAfter n (stripPlane (c .frame) (c .first) (c .count) (c .piece) k) (lent c p k)) (answers c d ∙ e)
       ∙ ap₂ (λ g x. stripPlane g (c .first) (c .count) x k) (o .frame) (o .piece)
 
   rows-of : (c : StripCall) → (w : Fits f (c .first) (c .count) (c .piece) (c .size Red) (c .size Green) (c .size Blue)) → (k : Colour) → Rows (f .width) rule k (c .first) (c .count) (stripPlane f (c .first) (c .count) (pieceOf (f .width) (f .height) (c .first) (c .count) readings) k)
@@ -93,7 +93,7 @@ module _ (f : Frame) (readings : List ℕ) where
   }
 
   step : (c : StripCall) (p q : Planes) → Called f readings c p q → Step (f .width) (f .height) rule (callOf c) p q
-  unfolding left
+  unfolding heldAfter
   step c p q d = go (numberOf c) refl
     where
       go : (n : ℕ) → numberOf c ≡ n → Step (f .width) (f .height) rule (callBy n c) p q
@@ -101,7 +101,7 @@ module _ (f : Frame) (readings : List ℕ) where
           let o = d .premise e in
           let w = fits-frame c e o in
           (w .rows, λ k. (stripPlane f (c .first) (c .count) (pieceOf (f .width) (f .height) (c .first) (c .count) readings) k, rows-of c w k, d .rest k ∙ ap₂ (λ s x. put s x (p k)) (o .rows k) (delivered c d e o k)))
-      go (suc n) e = λ k. (d .inside k, d .rest k ∙ ap (λ x. put (c .from k) x (p k)) (promised (d .promise) k ∙ ap (λ n. left n (stripPlane (c .frame) (c .first) (c .count) (c .piece) k) (lent c p k)) (answers c d ∙ e)))
+      go (suc n) e = λ k. (d .inside k, d .rest k ∙ ap (λ x. put (c .from k) x (p k)) (promised (d .promise) k ∙ ap (λ n. heldAfter n (stripPlane (c .frame) (c .first) (c .count) (c .piece) k) (lent c p k)) (answers c d ∙ e)))
 
   runs : (l : List StripCall) (p q : Planes) → CalledAll f readings l p q → Runs (f .width) (f .height) rule (map callOf l) p q
   runs [] p q h = h

@@ -7,7 +7,7 @@ use Rattle.bayer.specs.declared.frame.Frame.{Frame}
 use Rattle.bayer.specs.Piece.{pieceStart}
 use Rattle.demosaic.specs.Sample.{sample}
 use Rattle.green_rows.specs.Table.{joined}
-use Rattle.strip.specs.Strip.{stripPlane, left}
+use Rattle.strip.specs.Strip.{stripPlane, heldAfter}
 use Rattle.strip.specs.Rows.{greenRow, colourRow}
 
 module _ (f : Frame) (a n : ℕ) (piece : List ℕ) (start : ℕ) (e : start ≡ pieceStart a) where
@@ -24,7 +24,7 @@ module _ (f : Frame) (a n : ℕ) (piece : List ℕ) (start : ℕ) (e : start ≡
   blue-plane = ap (λ s. joined (λ i. colourRow f s piece Blue (a + i)) n) e
 
 -- a refused call leaves what it was lent
-pub left-lent : (number : ℕ) (delivered lent : List ℕ) → (number ≡ 0 → ⊥) → left number delivered lent ≡ lent
-unfolding left
-left-lent zero delivered lent h = absurd (h refl)
-left-lent (suc n) delivered lent h = refl
+pub refused-holds : (number : ℕ) (delivered lent : List ℕ) → (number ≡ 0 → ⊥) → heldAfter number delivered lent ≡ lent
+unfolding heldAfter
+refused-holds zero delivered lent h = absurd (h refl)
+refused-holds (suc n) delivered lent h = refl

@@ -18,7 +18,7 @@ use Rattle.demosaic.specs.Sample.{sample}
 use Rattle.demosaic.proofs.FrameLocal.{piece-sample}
 use Rattle.green_rows.specs.Table.{table}
 use Rattle.green_rows.proofs.TableLaws.{length-table, getD-table, table-same, length-joined, getD-joined, joined-same}
-use Rattle.strip.specs.Strip.{anyAbove, stripNumber, stripPlane, frameRows, left, Promise}
+use Rattle.strip.specs.Strip.{anyAbove, stripNumber, stripPlane, frameRows, heldAfter, Promise}
 
 -- ---- tests
 
@@ -106,15 +106,15 @@ unfolding stripPlane
 strip-of-frame f readings a n hH hr k = joined-same _ _ n (λ i h. table-same _ _ (f .width) (λ j g. piece-sample f a n (a + i) hH hr (omega arith) (omega arith) scale evenWeights readings k j))
 
 -- plane k of what a call leaves
-pub promised : {f : Frame} {a n : ℕ} {piece : List ℕ} {lent after : Colour → List ℕ} {answer : ℕ} → Promise f a n piece lent answer after → (k : Colour) → after k ≡ left answer (stripPlane f a n piece k) (lent k)
+pub promised : {f : Frame} {a n : ℕ} {piece : List ℕ} {lent after : Colour → List ℕ} {answer : ℕ} → Promise f a n piece lent answer after → (k : Colour) → after k ≡ heldAfter answer (stripPlane f a n piece k) (lent k)
 promised p Red = p .red
 promised p Green = p .green
 promised p Blue = p .blue
 
 -- DEMAND 2: an accepted call leaves the samples of rows a to a + n − 1 of every frame whose rows its piece is. Nothing is asked of the frame's other rows
 pub demand-2 : (f : Frame) (readings : List ℕ) (a n : ℕ) {lent after : Colour → List ℕ} {answer : ℕ} → Promise f a n (pieceOf (f .width) (f .height) a n readings) lent answer after → answer ≡ 0 → (k : Colour) → after k ≡ frameRows f readings a n k
-unfolding left
+unfolding heldAfter
 demand-2 f readings a n {lent} p e k =
     let piece = pieceOf (f .width) (f .height) a n readings in
     let w = fits f a n piece _ _ _ (sym (p .number) ∙ e) in
-    promised p k ∙ ap (λ n′. left n′ (stripPlane f a n piece k) (lent k)) e ∙ strip-of-frame f readings a n (w .high) (w .rows) k
+    promised p k ∙ ap (λ n′. heldAfter n′ (stripPlane f a n piece k) (lent k)) e ∙ strip-of-frame f readings a n (w .high) (w .rows) k

@@ -42,18 +42,18 @@ abbrev pub frameRows : Frame → (readings : List ℕ) (a n : ℕ) (k : Colour) 
 frameRows f readings a n k = joined (λ i. table (λ j. sample scale evenWeights f 0 readings k (a + i) j) (f .width)) n
 
 -- what a lent plane holds after a call of this number: accepted, the samples delivered; refused, what it held
-unfoldable pub left : (number : ℕ) (delivered lent : List ℕ) → List ℕ
-left zero delivered lent = delivered
-left (suc n) delivered lent = lent
+unfoldable pub heldAfter : (number : ℕ) (delivered lent : List ℕ) → List ℕ
+heldAfter zero delivered lent = delivered
+heldAfter (suc n) delivered lent = lent
 
-abbrev pub three : (red green blue : List ℕ) → Colour → List ℕ
-three red green blue Red = red
-three red green blue Green = green
-three red green blue Blue = blue
+abbrev pub threePlanes : (red green blue : List ℕ) → Colour → List ℕ
+threePlanes red green blue Red = red
+threePlanes red green blue Green = green
+threePlanes red green blue Blue = blue
 
 -- THE CONTRACT of a strip call, which its code is proved to keep: its answer, and the planes lent to it as they are afterwards
 pub record Promise (f : Frame) (a n : ℕ) (piece : List ℕ) (lent : Colour → List ℕ) (answer : ℕ) (after : Colour → List ℕ) : Type 0 where
   pub number : answer ≡ stripNumber f a n piece (length (lent Red)) (length (lent Green)) (length (lent Blue))
-  pub red : after Red ≡ left answer (stripPlane f a n piece Red) (lent Red)
-  pub green : after Green ≡ left answer (stripPlane f a n piece Green) (lent Green)
-  pub blue : after Blue ≡ left answer (stripPlane f a n piece Blue) (lent Blue)
+  pub red : after Red ≡ heldAfter answer (stripPlane f a n piece Red) (lent Red)
+  pub green : after Green ≡ heldAfter answer (stripPlane f a n piece Green) (lent Green)
+  pub blue : after Blue ≡ heldAfter answer (stripPlane f a n piece Blue) (lent Blue)

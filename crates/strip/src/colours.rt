@@ -16,7 +16,7 @@ use bayer::frame::Frame;
 use bayer::mirror::mirror;
 use fill_rows::rows::other_row;
 use fill_rows::rows::own_row;
-use green_rows::row::starts_green;
+use green_rows::parity::starts_green;
 
 // Row v of the greens of rows a to a + n - 1 and of those above and below them.
 fn green_of<'a>(

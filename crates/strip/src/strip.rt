@@ -1,7 +1,7 @@
 ghost use mathlib.Core.Path.{_≡_};
 ghost use lib.ListN.{length};
 ghost use Rattle.bayer.specs.declared.colour.Colour.the-variants.{Red, Green, Blue};
-ghost use Rattle.strip.specs.Strip.{stripNumber, stripPlane, Promise, three};
+ghost use Rattle.strip.specs.Strip.{stripNumber, stripPlane, Promise, threePlanes};
 use crate::check::strip_check;
 use crate::colours::colour_rows;
 use crate::greens::greens;
@@ -78,7 +78,7 @@ pub fn strip(
     green: &mut [u16],
     blue: &mut [u16],
 ) -> u32
-    ensures { λ r. ⌜ Promise frame a n (now (piece .entry)) (three (now (red .entry)) (now (green .entry)) (now (blue .entry))) r (three (now (red .exit)) (now (green .exit)) (now (blue .exit))) ⌝ }
+    ensures { λ r. ⌜ Promise frame a n (now (piece .entry)) (threePlanes (now (red .entry)) (now (green .entry)) (now (blue .entry))) r (threePlanes (now (red .exit)) (now (green .exit)) (now (blue .exit))) ⌝ }
 {
     let number = strip_check(frame, a, n, piece, red.len(), green.len(), blue.len());
     if number != 0 {

@@ -4,7 +4,7 @@ use mathlib.Core.Path.{_≡_, ap, _∙_}
 use native.Mathlib.Omega.{arith}
 use borrow.Author.Needs.{needs}
 use Rattle.bayer.specs.declared.frame.Frame.{Frame}
-use Rattle.strip.specs.Strip.{three}
+use Rattle.strip.specs.Strip.{threePlanes}
 use Rattle.frame_file.specs.Text.{refusalLine}
 use Rattle.frame_file.specs.FrameFile.{frameOf, lines, output}
 use Rattle.frame_file.proofs.FileLaws.{sized, readings-are}
@@ -20,7 +20,7 @@ refused-line c h =
     let s = c .before .before .before .before .before .before .before .before .before .before .before .before .before .before .before in
     refused (s .args .bytes .now) (s .pre .0 .0) (s .args .frame) (s .pre .0 .1) _ (c .before .before .before .before .before .before .before .read-readings .ensures ∙ readings-are (s .args .bytes .now) (s .pre .1 .0 ∙ size s)) _ _ _ (c .strip .ensures) (s .pre .1 .1) (s .pre .1 .2) (s .pre .1 .3) h
 
-delivered-lines : (c : tie.After-strip) → let s = c .before .before .before .before .before .before .before .before .before .before .before .before .before .before .before in c .strip .result ≡ 0 → output (s .args .bytes .now) ≡ lines (three (c .strip .last .1 .1 .1 .1 .0) (c .strip .last .1 .1 .1 .1 .1 .0) (c .strip .last .1 .1 .1 .1 .1 .1 .0))
+delivered-lines : (c : tie.After-strip) → let s = c .before .before .before .before .before .before .before .before .before .before .before .before .before .before .before in c .strip .result ≡ 0 → output (s .args .bytes .now) ≡ lines (threePlanes (c .strip .last .1 .1 .1 .1 .0) (c .strip .last .1 .1 .1 .1 .1 .0) (c .strip .last .1 .1 .1 .1 .1 .1 .0))
 delivered-lines c z =
     let s = c .before .before .before .before .before .before .before .before .before .before .before .before .before .before .before in
     delivered (s .args .bytes .now) (s .pre .0 .0) (s .args .frame) (s .pre .0 .1) _ (c .before .before .before .before .before .before .before .read-readings .ensures ∙ readings-are (s .args .bytes .now) (s .pre .1 .0 ∙ size s)) _ _ _ (c .strip .ensures) (s .pre .1 .1) (s .pre .1 .2) (s .pre .1 .3) z

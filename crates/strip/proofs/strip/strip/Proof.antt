@@ -1,8 +1,8 @@
 -- `strip::strip::strip` meets its contract. Assumes nothing.
 use native.Mathlib.Omega.{arith}
 use mathlib.Core.Path.{_≡_, sym, _∙_}
-use Rattle.strip.specs.Strip.{left}
-use Rattle.strip.proofs.PlaneLaws.{left-lent}
+use Rattle.strip.specs.Strip.{heldAfter}
+use Rattle.strip.proofs.PlaneLaws.{refused-holds}
 use borrow.Author.Needs.{needs}
 use Rattle.strip.proofs.strip.strip.Statement.{statement}
 use Rattle.strip.proofs.strip.strip.Tie as tie
@@ -13,7 +13,7 @@ strip-check-requires c κs = search needs
 returns : tie.Need-returns
 returns c =
     let refused : c .before .strip-check .result ≡ 0 → ⊥ = λ e. omega (arith, e, c .if1 .taken) in
-    record { number = c .before .strip-check .ensures; red = sym (left-lent _ _ _ refused); green = sym (left-lent _ _ _ refused); blue = sym (left-lent _ _ _ refused) }
+    record { number = c .before .strip-check .ensures; red = sym (refused-holds _ _ _ refused); green = sym (refused-holds _ _ _ refused); blue = sym (refused-holds _ _ _ refused) }
 
 slice-aggregate-fill : tie.Need-slice-aggregate-fill
 slice-aggregate-fill c = search needs
@@ -34,7 +34,7 @@ same-length-3 : tie.Need-same-length-3
 same-length-3 c = search needs
 
 returns-2 : tie.Need-returns-2
-unfolding left
+unfolding heldAfter
 returns-2 c =
     let f = c .before .before .before .before .before .before .before .before .fill .ensures in
     record { number = sym (c .before .before .before .before .before .before .before .before .before .before .before .before .before .before .if1 .left) ∙ c .before .before .before .before .before .before .before .before .before .before .before .before .before .before .before .strip-check .ensures; red = f .0; green = f .1 .0; blue = f .1 .1 }
