@@ -1,9 +1,13 @@
--- What a strip call on the whole frame of a file answers is what the program prints. Assumes nothing.
-use Prim.Native.Nat.{ℕ, zero, suc, _*_}
+-- What a strip call on the whole frame of a file answers is what the program prints, and what is read of a file decides it. Assumes nothing.
+use Prim.Native.Nat.{ℕ, zero, suc, _*_, _<_}
 use mathlib.Core.Path.{_≡_, refl, sym, ap, _∙_}
 use mathlib.Core.Bool.{true, false}
 use mathlib.Core.List.{List}
-use lib.ListN.{length}
+use native.Mathlib.Decide.{decLe}
+use native.Mathlib.Omega.{arith}
+use borrow.Author.Tests.{lt-ltb}
+use lib.ListN.{length, take, length-take}
+use lib.Seq.{take-all}
 use Rattle.bayer.specs.declared.colour.Colour.{Colour}
 use Rattle.bayer.specs.declared.colour.Colour.the-variants.{Red, Green, Blue}
 use Rattle.bayer.specs.declared.frame.Frame.{Frame}
@@ -15,6 +19,18 @@ use Rattle.frame_file.proofs.FileLaws.{torn, number-is, plane-is}
 pub torn-line : (bytes : List ℕ) → malformed bytes ≡ true → output bytes ≡ refusalLine 8
 unfolding output answered
 torn-line bytes e = rw (torn bytes e)
+
+-- the first bytes of a file decide what is printed of it, if they are more than a file may have
+pub read-decides : (size : ℕ) (file : List ℕ) → 8202 < size → output (take size file) ≡ output file
+unfolding malformed
+read-decides size file room =
+    elim (decLe (length file) size) [
+      yes h ↦ ap output (take-all size file h)
+    | no h ↦ torn-line (take size file) (long (take size file) (omega (arith, length-take size file))) ∙ sym (torn-line file (long file (omega arith)))
+    ]
+  where
+    long : (bytes : List ℕ) → 8202 < length bytes → malformed bytes ≡ true
+    long bytes h = rw (lt-ltb 8202 (length bytes) h)
 
 refuses : (n : ℕ) (accepted : List ℕ) → (n ≡ 0 → ⊥) → answered n accepted ≡ refusalLine n
 unfolding answered

@@ -1,7 +1,8 @@
 ghost use mathlib.Core.Path.{_≡_};
 ghost use mathlib.Core.Bool.{false};
-ghost use Prim.Native.Nat.{_*_, _≤_};
-ghost use lib.ListN.{length};
+ghost use mathlib.Core.List.{List};
+ghost use Prim.Native.Nat.{ℕ, _*_, _≤_, min};
+ghost use lib.ListN.{length, take};
 ghost use Rattle.strip.specs.Strip.{threePlanes};
 ghost use Rattle.frame_file.specs.Text.{Printed, Answered};
 ghost use Rattle.frame_file.specs.FrameFile.{frameOf, malformed, lines, output};
@@ -87,4 +88,20 @@ pub fn answer(bytes: &[u8], out: &mut [u8]) -> usize
     let mut green = [0u16; 4096];
     let mut blue = [0u16; 4096];
     file_answer(bytes, &mut mosaic, &mut red, &mut green, &mut blue, out)
+}
+
+fn lesser(a: usize, b: usize) -> usize
+    ensures { λ r. ⌜ r ≡ min a b ⌝ }
+{
+    if a < b { a } else { b }
+}
+
+// The same for a file of which n bytes, its first or all of them, were read into a buffer. The buffer's size is part of the type: in one of 8202 bytes a file
+// that is a byte too long would not show.
+pub fn answer_read(bytes: [u8; 8203], n: usize, out: &mut [u8]) -> usize
+    ensures { λ r. ⌜ ((file : List ℕ) → take n bytes ≡ take (length bytes) file → Answered (output file) (now (out .entry)) (now (out .exit)) r) ⌝ }
+    ensures { λ r. ⌜ r ≤ 105 ⌝ }
+{
+    let size = lesser(n, bytes.len());
+    answer(&bytes[..size], out)
 }

@@ -1,11 +1,10 @@
 // Reads a frame file from standard input and prints the smallest, the largest and the sum of each plane, or the number of its refusal.
-use frame_file::answer::answer;
+use frame_file::answer::answer_read;
 
 fn main() {
-    // one byte more than the longest file, so that a longer one shows
     let mut bytes = [0u8; 8203];
     let n = io::read_full(0, &mut bytes);
     let mut out = [0u8; 105];
-    let size = answer(&bytes[..n], &mut out);
+    let size = answer_read(bytes, n, &mut out);
     io::write_all(1, &out[..size]);
 }

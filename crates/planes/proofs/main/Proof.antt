@@ -1,8 +1,7 @@
--- `planes::main` meets its contract: what `answer` put into `out` lies within it. Assumes nothing.
+-- `planes::main` meets its contract: what `answer_read` put into `out` lies within it. Assumes nothing.
 use mathlib.Core.Path.{sym}
 use native.Mathlib.Omega.{arith}
 use borrow.Author.Needs.{needs}
-use lib.Dec.{lit≤}
 use lib.Seq.{length-take-le}
 use Rattle.planes.proofs.main.Statement.{statement}
 use Rattle.planes.proofs.main.Tie as tie
@@ -13,23 +12,17 @@ slice-aggregate-read-full c = search needs
 read-full-requires : tie.Need-read-full-requires
 read-full-requires c κs = search needs
 
-array-share-prefix-bytes : tie.Need-array-share-prefix-bytes
-array-share-prefix-bytes c = search needs
+slice-aggregate-answer-read : tie.Need-slice-aggregate-answer-read
+slice-aggregate-answer-read c = search needs
 
-slice-aggregate-answer : tie.Need-slice-aggregate-answer
-slice-aggregate-answer c = search needs
-
-slice-aggregate-answer-2 : tie.Need-slice-aggregate-answer-2
-slice-aggregate-answer-2 c = search needs
-
-answer-requires : tie.Need-answer-requires
-answer-requires c κs = search needs
+answer-read-requires : tie.Need-answer-read-requires
+answer-read-requires c κs = search needs
 
 array-share-prefix-out : tie.Need-array-share-prefix-out
-array-share-prefix-out c = omega (arith, c .before .answer .ensures .printed (lit≤ tt) .1)
+array-share-prefix-out c = omega (arith, c .before .answer-read .ensures .1)
 
 slice-aggregate-write-all : tie.Need-slice-aggregate-write-all
-slice-aggregate-write-all c = let a = c .before .before .answer in sym (length-take-le _ (a .last .1 .0) (omega (arith, a .ensures .printed (lit≤ tt) .1)))
+slice-aggregate-write-all c = let a = c .before .before .answer-read in sym (length-take-le _ (a .last .1 .1 .0) (omega (arith, a .ensures .1)))
 
 write-all-requires : tie.Need-write-all-requires
 write-all-requires c κs = search needs
@@ -43,10 +36,8 @@ main-spec =
     (tie.spec
     slice-aggregate-read-full
     read-full-requires
-    array-share-prefix-bytes
-    slice-aggregate-answer
-    slice-aggregate-answer-2
-    answer-requires
+    slice-aggregate-answer-read
+    answer-read-requires
     array-share-prefix-out
     slice-aggregate-write-all
     write-all-requires
