@@ -1,6 +1,6 @@
 -- After any list of calls, each covered row holds the rule's samples, and every other row is as before. For any rule. Assumes nothing.
 use mathlib.Core.Path.{_≡_, _∙_, ap}
-use mathlib.Core.Logic.{inl, inr, ⊎-elim}
+use mathlib.Core.Logic.{inl, inr, ⊎-elim, Dec·and}
 use mathlib.Core.List.{List, [], _∷_, _++_}
 use Prim.Native.Nat.{ℕ, suc, _+_, _*_, _-_, _≤_, _<_}
 use native.Mathlib.Nat.{mul-le-mul-right}
@@ -12,12 +12,7 @@ use Rattle.bayer.specs.declared.colour.Colour.{Colour}
 use Rattle.calls.specs.Calls.{Planes, stretch, put, Call, accepted, refused, Step, Runs, Covers, Covered, After}
 
 dec-covers : (c : Call) (i : ℕ) → Dec (Covers c i)
-dec-covers (accepted a n) i = go (decLe a i) (decLt i (a + n))
-  where
-    go : Dec (a ≤ i) → Dec (i < a + n) → Dec (Covers (accepted a n) i)
-    go (yes h) (yes k) = yes (h, k)
-    go (yes h) (no k) = no (λ x. k (x .1))
-    go (no h) d = no (λ x. h (x .0))
+dec-covers (accepted a n) i = Dec·and (decLe a i) (decLt i _)
 dec-covers (refused from size) i = no (λ x. x)
 
 dec-covered : (l : List Call) (i : ℕ) → Dec (Covered l i)
@@ -95,7 +90,7 @@ module _ (W H : ℕ) (rule : Colour → ℕ → ℕ → ℕ) where
           rw y at (put-after (a * W) new (p k) (i * W + j - (a * W + length new)) f)
         where
           by-cases : Dec (i < a + n) → a + n ≤ i
-          by-cases (yes w) = absurd (v (omega arith, w))
+          by-cases (yes w) = absurd (v (omega arith, omega arith))
           by-cases (no w) = omega arith
   step-others (refused from size) p q h e k i j v hj = ap (λ l. getD l (i * W + j) 0) (h k .1 ∙ put-stretch (from k) (size k) (p k) (h k .0))
 

@@ -13,7 +13,7 @@ use Rattle.bayer.specs.declared.frame.Frame.{Frame}
 use Rattle.bayer.specs.Colour.{colours, colourAt, same}
 use Rattle.bayer.specs.Mirror.{mirror}
 use Rattle.bayer.proofs.MirrorLaws.{Reflected, mirror-inside, mirror-parity}
-use Rattle.bayer.proofs.ColourLaws.{parity-colour, table, agree}
+use Rattle.bayer.proofs.ColourLaws.{parity-colour, cells, by-layout}
 use Rattle.gbtf.specs.Mosaic.{continued}
 use Rattle.gbtf.specs.GreenAt.{isGreen}
 use Rattle.demosaic.specs.Sample.{Pixel, diagonal, inRow, inColumn, neighbours}
@@ -40,12 +40,8 @@ source k here right below across = cond (same here Green) (cond (same right k) r
 abbrev sourceAt : (k : Colour) (layout i j : ℕ) → Colour
 sourceAt k l i j = source k (colourAt l i j) (colourAt l i (j + 1)) (colourAt l (i + 1) j) (colourAt l (i + 1) (j + 1))
 
--- a rule's colours in a layout
-abbrev block : (ℕ → ℕ → ℕ → Colour) → (layout : ℕ) → List (List Colour)
-block c l = table (λ i. table (c l i) 2) 2
-
 -- one test of all layouts, for red and for blue
-test : (k : Colour) → (k ≡ Green → ⊥) → table (block (sourceAt k)) 4 ≡ table (block (λ l i j. k)) 4
+test : (k : Colour) → (k ≡ Green → ⊥) → cells (sourceAt k) ≡ cells (λ l i j. k)
 unfolding colours colourAt
 test Red n = refl
 test Green n = absurd (n refl)
@@ -54,10 +50,7 @@ test Blue n = refl
 source-is : (k : Colour) → (k ≡ Green → ⊥) → (l i i′ j j′ : ℕ) → l ≤ 3 → i′ % 2 ≡ (i % 2 + 1) % 2 → j′ % 2 ≡ (j % 2 + 1) % 2 → source k (colourAt l i j) (colourAt l i j′) (colourAt l i′ j) (colourAt l i′ j′) ≡ k
 unfolding colourAt
 source-is k n l i i′ j j′ h p q =
-    rw (← mod-mod i 2, ← mod-mod j 2, p, q)
-    (agree (sourceAt k l (i % 2)) (λ j. k) 2
-    (agree (λ i. table (sourceAt k l i) 2) (λ i. table (λ j. k) 2) 2
-    (agree (block (sourceAt k)) (block (λ l i j. k)) 4 (test k n) l (omega arith)) (i % 2) (omega arith)) (j % 2) (omega arith))
+    rw (← mod-mod i 2, ← mod-mod j 2, p, q) (by-layout (sourceAt k) (λ l i j. k) (test k n) l i j h)
 
 abbrev pub Has : Frame → Colour → Pixel → Type 0
 Has f k p = colourAt (f .layout) (p .row) (p .col) ≡ k

@@ -14,6 +14,7 @@ use Rattle.bayer.specs.declared.frame.Frame.{Frame}
 use Rattle.bayer.specs.Colour.{same}
 use Rattle.bayer.specs.Mirror.{mirror}
 use Rattle.bayer.specs.View.{rowOf}
+use Rattle.bayer.proofs.ViewLaws.{row-at-most}
 use Rattle.gbtf.specs.Direction.{total}
 use Rattle.gbtf.specs.Mosaic.{Mosaic, continued}
 use Rattle.gbtf.specs.GreenAt.{greenAt, exactGreenAt}
@@ -23,7 +24,6 @@ use Rattle.gbtf.specs.Weights.{scale, evenWeights}
 use Rattle.demosaic.specs.Sample.{Pixel, diagonal, inRow, inColumn, readingOf, colourDifferences, otherFrom, sampleFrom, sample}
 use Rattle.demosaic.specs.Exact.{exactFill, exactDifferences, exactOtherFrom, exactFrom, exactSample, printed}
 use Rattle.demosaic.proofs.Neighbours.{neighbours-cases}
-use Rattle.demosaic.proofs.SampleRange.{row-range}
 use Rattle.demosaic.proofs.FillError.{fill-within}
 use Rattle.whole.proofs.Lists.{everywhere}
 
@@ -60,7 +60,7 @@ module _ (K : ℕ) (hK : 0 < K) (ws : List ℕ) (hT : 0 < total ws) (f : Frame) 
   -- a frame, from its rows from row `first` on
   pub sample-error : (first : ℕ) (rows : List ℕ) → ((n : ℕ) → getD rows n 0 ≤ 4095) → (k : Colour) (i j : ℕ) → Within (natural (sample K ws f first rows k i j)) (exactSample ws hT f first rows k i j) (figure k) 100
   unfolding sample exactSample rowOf
-  sample-error first rows range k i j = mosaic-error (continued f first rows) (λ i j. row-range (f .width) rows range (mirror (f .height) i - first) (mirror (f .width) j)) k (pos i) (pos j)
+  sample-error first rows range k i j = mosaic-error (continued f first rows) (λ i j. row-at-most (f .width) (mirror (f .height) i - first) rows range (mirror (f .width) j)) k (pos i) (pos j)
 
 -- THE PRINTED ERROR of document 01: green within 51 hundredths, red and blue within 151
 pub printed-error : (f : Frame) (first : ℕ) (rows : List ℕ) → ((n : ℕ) → getD rows n 0 ≤ 4095)

@@ -2,11 +2,9 @@
 use mathlib.Core.Bool.{Bool, true, false, cond}
 use mathlib.Core.List.{List, [], _∷_}
 use Prim.Native.Nat.{ℕ, _+_, _*_, _-_, _/_, _≤_}
-use native.Mathlib.Decide.{decLt}
 use native.Mathlib.Omega.{arith}
 use lib.IntN.{ℤ, pos, _+ℤ_, _-ℤ_}
-use lib.ListN.{length, getD, take, drop, length-take, List·getD-eq-default}
-use lib.Seq.{getD-take, getD-drop}
+use lib.ListN.{length, getD}
 use Rattle.whole.specs.Floor.{floorDiv}
 use Rattle.whole.proofs.FloorLaws.{clamp-le}
 use Rattle.bayer.specs.declared.colour.Colour.{Colour}
@@ -14,7 +12,7 @@ use Rattle.bayer.specs.declared.colour.Colour.the-variants.{Red, Green, Blue}
 use Rattle.bayer.specs.declared.frame.Frame.{Frame}
 use Rattle.bayer.specs.Colour.{same}
 use Rattle.bayer.specs.Mirror.{mirror}
-use Rattle.bayer.specs.View.{rowOf}
+use Rattle.bayer.proofs.ViewLaws.{row-at-most}
 use Rattle.gbtf.specs.declared.direction.Direction.{Direction}
 use Rattle.gbtf.specs.Direction.{total}
 use Rattle.gbtf.specs.Fusion.{smallest, shares, sharedDifferences, fusion, green}
@@ -22,14 +20,6 @@ use Rattle.gbtf.specs.Mosaic.{Mosaic, continued}
 use Rattle.gbtf.specs.GreenAt.{isGreen, east, west, north, south, greenAt}
 use Rattle.demosaic.specs.Fill.{fill, sumOf}
 use Rattle.demosaic.specs.Sample.{neighbours, colourDifferences, otherFrom, sampleFrom, sample}
-
--- in a row of readings none is larger than all of them allow
-pub row-range : (w : ℕ) (rows : List ℕ) → ((n : ℕ) → getD rows n 0 ≤ 4095) → (r c : ℕ) → getD (rowOf w r rows) c 0 ≤ 4095
-unfolding rowOf
-row-range w rows range r c = elim (decLt c w) [
-  | yes h ↦ rw (getD-take w (drop (r * w) rows) c 0 h, getD-drop (r * w) rows c 0) (range (r * w + c))
-  | no h ↦ rw (List·getD-eq-default (take w (drop (r * w) rows)) 0 {n = c} (simp length-take (omega arith))) (omega arith)
-]
 
 -- every sample is from 0 to 65520
 either-range : (b : Bool) (x y : ℕ) → x ≤ 4095 → y ≤ 65520 → cond b (16 * x) y ≤ 65520
@@ -60,4 +50,4 @@ module _ (f : Frame) (m : Mosaic) (range : (i j : ℤ) → m .reading i j ≤ 40
 
 pub sample-range : (K : ℕ) (ws : List ℕ) (f : Frame) (first : ℕ) (rows : List ℕ) → ((n : ℕ) → getD rows n 0 ≤ 4095) → (k : Colour) (i j : ℕ) → sample K ws f first rows k i j ≤ 65520
 unfolding sample
-sample-range K ws f first rows range k i j = mosaic-range f (continued f first rows) (λ i j. row-range (f .width) rows range (mirror (f .height) i - first) (mirror (f .width) j)) (pos i) (pos j) K ws k
+sample-range K ws f first rows range k i j = mosaic-range f (continued f first rows) (λ i j. row-at-most (f .width) (mirror (f .height) i - first) rows range (mirror (f .width) j)) (pos i) (pos j) K ws k

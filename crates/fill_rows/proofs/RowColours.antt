@@ -2,7 +2,6 @@
 use Prim.Native.Nat.{ℕ, _+_, _%_, _≤_}
 use mathlib.Core.Path.{_≡_, refl, ap, _∙_}
 use mathlib.Core.Bool.{Bool, true, false, not}
-use mathlib.Core.List.{List}
 use native.Mathlib.Nat.{mod-mod}
 use native.Mathlib.Omega.{arith}
 use borrow.Author.Tests.{eqb-true}
@@ -10,7 +9,7 @@ use lib.Dec.{eqb}
 use Rattle.bayer.specs.declared.colour.Colour.{Colour}
 use Rattle.bayer.specs.declared.colour.Colour.the-variants.{Green}
 use Rattle.bayer.specs.Colour.{colours, colourAt, same, partner}
-use Rattle.bayer.proofs.ColourLaws.{table, agree}
+use Rattle.bayer.proofs.ColourLaws.{cells, by-layout}
 use Rattle.green_rows.specs.Buffer.{isOdd, startsGreen}
 use Rattle.fill_rows.specs.Rows.{opposite}
 
@@ -28,19 +27,15 @@ is l i j = looks (partner l i) (colourAt l i j)
 abbrev shall : (l i j : ℕ) → Bool × Bool × Bool
 shall l i j = shared (isOdd (j % 2 + startsGreen l i))
 
-abbrev block : (ℕ → ℕ → ℕ → Bool × Bool × Bool) → (l : ℕ) → List (List (Bool × Bool × Bool))
-block c l = table (λ i. table (c l i) 2) 2
-
 -- one test of all layouts
-test : table (block is) 4 ≡ table (block shall) 4
+test : cells is ≡ cells shall
 unfolding colours colourAt partner
 test = refl
 
 by-test : (l i j : ℕ) → l ≤ 3 → is l i j ≡ shall l i j
 unfolding colourAt partner
 by-test l i j h =
-    rw (← mod-mod i 2, ← mod-mod j 2)
-    (agree (is l (i % 2)) (shall l (i % 2)) 2 (agree (λ i. table (is l i) 2) (λ i. table (shall l i) 2) 2 (agree (block is) (block shall) 4 test l (omega arith)) (i % 2) (omega arith)) (j % 2) (omega arith))
+    rw (← mod-mod i 2, ← mod-mod j 2) (by-layout is shall test l i j h)
 
 pub row-colours : (l i j : ℕ) → l ≤ 3 → looks (partner l i) (colourAt l i j) ≡ shared (isOdd (j + startsGreen l i))
 row-colours l i j h = by-test l i j h ∙ ap (λ n. shared (eqb n 1)) (reduced j (startsGreen l i))

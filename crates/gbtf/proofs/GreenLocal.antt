@@ -16,6 +16,7 @@ use Rattle.gbtf.specs.Direction.{directionSum, fiveSum, total, direction
 use Rattle.gbtf.specs.Fusion.{green}
 use Rattle.gbtf.specs.Exact.{exactGreen}
 use Rattle.gbtf.specs.Mosaic.{Mosaic}
+use Rattle.gbtf.proofs.PixelLaws.{five-sum-same}
 use Rattle.gbtf.specs.GreenAt.{isGreen, DH, DV, GH, GV, threeFrom, window, east, west, north, south, greenAt, exactGreenAt}
 
 -- row r is at most k rows away from row i
@@ -36,9 +37,6 @@ module _ {i : ℤ} where
   -- k up and b down again
   pub back : (d k b : ℕ) {c : ℕ} (r : ℤ) → Near c i r → c + k ≤ d + b → c + b ≤ d + k → Near d i (r -ℤ pos k +ℤ pos b)
   back d k b r h e f = record { above = omega (arith, -ℤ-up r (pos k), +ℤ-up (r -ℤ pos k) (pos b)); below = omega (arith, -ℤ-up r (pos k), +ℤ-up (r -ℤ pos k) (pos b)) }
-
-five-sum-same : (ws : List ℕ) (D E : ℕ → ℤ) → ((k : ℕ) → k ≤ 4 → D k ≡ E k) → fiveSum ws D ≡ fiveSum ws E
-five-sum-same ws D E h = rw (h 0 (lit≤ tt), h 1 (lit≤ tt), h 2 (lit≤ tt), h 3 (lit≤ tt), h 4 (lit≤ tt))
 
 -- windows whose three rows are the same
 window-same : (G F : ℤ → ℤ → ℕ) (i j : ℤ) → G i ≡ F i → G (i +ℤ pos 1) ≡ F (i +ℤ pos 1) → G (i +ℤ pos 2) ≡ F (i +ℤ pos 2) → directionSum (window G i j) ≡ directionSum (window F i j)

@@ -5,7 +5,7 @@ use mathlib.Core.List.{List, [], _∷_}
 use Prim.Native.Nat.{ℕ, _+_, _*_, _/_, _^_, _≤_, _<_, min, max}
 use native.Mathlib.Nat.{le-refl, le-trans, lt-of-le-of-lt, mul-le-mul, mul-le-mul-left, mul-le-mul-right, mul-pos, div-le-of-le-mul}
 use native.Mathlib.Omega.{arith}
-use lib.Dec.{lit<}
+use lib.Dec.{lit<, lit≤}
 use lib.IntN.{ℤ, pos, natAbs, _+ℤ_, _-ℤ_, _*ℤ_}
 use lib.ListN.{getD}
 use mir.Syntax.{w64}
@@ -46,6 +46,10 @@ five-sum-within ws D {B} h = le-trans (within (by 0 ⊕ by 1 ⊕ by 2 ⊕ by 3 �
   where
     by : ℕ → E w64
     by k = nat (getD ws k 0) (getD ws k 0) (le-refl _) ⊗ int (D k) B (h k)
+
+-- of differences that are the same
+pub five-sum-same : (ws : List ℕ) (D E : ℕ → ℤ) → ((k : ℕ) → k ≤ 4 → D k ≡ E k) → fiveSum ws D ≡ fiveSum ws E
+five-sum-same ws D E h = rw (h 0 (lit≤ tt), h 1 (lit≤ tt), h 2 (lit≤ tt), h 3 (lit≤ tt), h 4 (lit≤ tt))
 
 pub five-sum-even : (D : ℕ → ℤ) → fiveSum (1 ∷ 1 ∷ 1 ∷ 1 ∷ 1 ∷ []) D ≡ D 0 +ℤ D 1 +ℤ D 2 +ℤ D 3 +ℤ D 4
 five-sum-even D =

@@ -1,18 +1,16 @@
 -- Bounds on what stands in the buffers. Assumes nothing.
 use Prim.Native.Nat.{ℕ, zero, suc, _+_, _-_, _*_, _≤_}
 use mathlib.Core.List.{List, [], _∷_, _++_}
-use mathlib.Core.Path.{sym, subst}
-use native.Mathlib.Decide.{decLe}
 use native.Mathlib.Omega.{arith}
 use lib.IntN.{ℤ, pos, natAbs, subℕ}
-use lib.ListN.{take, drop, getD, length-take, List·getD-eq-default}
-use lib.Seq.{getD-take, getD-drop}
+use lib.ListN.{getD}
+use Rattle.whole.proofs.Lists.{All}
 use Rattle.bayer.specs.declared.frame.Frame.{Frame}
 use Rattle.bayer.specs.Mirror.{mirror}
-use Rattle.bayer.specs.View.{rowOf}
+use Rattle.bayer.proofs.ViewLaws.{row-at-most}
 use Rattle.gbtf.specs.Direction.{directionSum}
 use Rattle.gbtf.proofs.PixelLaws.{difference-within, gradient-within, direction-sum-within}
-use Rattle.green_rows.specs.Table.{table, joined, part}
+use Rattle.green_rows.specs.Table.{table, joined}
 use Rattle.green_rows.specs.Directions.{windowIn}
 use Rattle.green_rows.specs.Buffer.{differenceIn, gradientIn, isOdd, AllAtMost, AllWithin}
 use Rattle.green_rows.specs.Extended.{extendedRow}
@@ -20,37 +18,17 @@ use Rattle.green_rows.proofs.TableLaws.{table-all}
 
 -- ---- P of every entry, and of d, which is read past the end
 module _ {A : Type 0} (P : A → Type 0) (d : A) (past : P d) where
-  abbrev All : List A → Type 0
-  All l = (k : ℕ) → P (getD l k d)
-
-  all-take : (n : ℕ) (l : List A) → All l → All (take n l)
-  all-take n l h k =
-      elim (decLe (suc k) n) [
-        | yes g ↦ subst P (sym (getD-take n l k d g)) (h k)
-        | no g ↦ subst P (sym (List·getD-eq-default (take n l) d {n = k} (rw (length-take n l) (omega arith)))) past
-      ]
-
-  all-drop : (n : ℕ) (l : List A) → All l → All (drop n l)
-  all-drop n l h k = subst P (sym (getD-drop n l k d)) (h (n + k))
-
-  pub all-part : (a n : ℕ) (l : List A) → All l → All (part a n l)
-  all-part a n l h = all-take n (drop a l) (all-drop a l h)
-
-  all-append : (xs ys : List A) → All xs → All ys → All (xs ++ ys)
+  all-append : (xs ys : List A) → All P d past xs → All P d past ys → All P d past (xs ++ ys)
   all-append [] ys h g k = g k
   all-append (x ∷ xs) ys h g zero = h 0
   all-append (x ∷ xs) ys h g (suc k) = all-append xs ys (λ j. h (suc j)) g k
 
-  pub all-joined : (f : ℕ → List A) (n : ℕ) → ((j : ℕ) → All (f j)) → All (joined f n)
+  pub all-joined : (f : ℕ → List A) (n : ℕ) → ((j : ℕ) → All P d past (f j)) → All P d past (joined f n)
   unfolding joined
   all-joined f zero h k = past
   all-joined f (suc n) h k = all-append (joined f n) (f n) (all-joined f n h) (h n) k
 
 -- ---- rows of readings
-pub row-at-most : (w i : ℕ) (rows : List ℕ) {m : ℕ} → AllAtMost m rows → AllAtMost m (rowOf w i rows)
-unfolding rowOf
-row-at-most w i rows {m} h = all-part (λ x. x ≤ m) 0 (omega arith) (i * w) w rows h
-
 pub extended-at-most : (f : Frame) (first : ℕ) (rows : List ℕ) (v s n : ℕ) {m : ℕ} → AllAtMost m rows → AllAtMost m (joined (extendedRow f first rows v s) n)
 extended-at-most f first rows v s n {m} h =
     all-joined (λ x. x ≤ m) 0 (omega arith) (extendedRow f first rows v s) n (λ r. table-all (λ x. x ≤ m) _ s (omega arith) (λ c _. row-at-most (f .width) (mirror (f .height) (subℕ (v + r) 6) - first) rows h _))

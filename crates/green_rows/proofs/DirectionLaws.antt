@@ -11,13 +11,12 @@ use Rattle.whole.proofs.Pairs.{anyₚ, _+ₚ_, eq-by}
 use Rattle.gbtf.specs.Direction.{direction, directionSum, fiveSum, total}
 use Rattle.gbtf.specs.Fusion.{green}
 use Rattle.gbtf.specs.Weights.{scale, evenWeights}
-use Rattle.gbtf.proofs.PixelLaws.{five-sum-within}
+use Rattle.gbtf.proofs.PixelLaws.{five-sum-within, five-sum-same}
 use Rattle.green_rows.specs.Table.{table, joined}
 use Rattle.green_rows.specs.Directions.{windowIn, after, before, reversed, sumIn, fiveIn, directionIn, directionFrom}
 use Rattle.green_rows.specs.Buffer.{isOdd, fusedBy, greenFrom, greenIn, AllAtMost, AllWithin}
 use Rattle.green_rows.proofs.TableLaws.{table-same, table-all, parts, getD-parts}
 use Rattle.green_rows.proofs.BoundLaws.{all-joined, window-at-most}
-use Rattle.green_rows.proofs.RowLaws.{five-agree}
 
 -- ---- one place
 pub sum-at : (s : ℕ) (g : List ℕ) {p q : ℕ} → p ≡ q → directionSum (windowIn s g p) ≡ directionSum (windowIn s g q)
@@ -33,7 +32,7 @@ turned ws D =
     eq-by (anyₚ (a 4) +ₚ anyₚ (a 3) +ₚ anyₚ (a 2) +ₚ anyₚ (a 1) +ₚ anyₚ (a 0)) (anyₚ (a 0) +ₚ anyₚ (a 1) +ₚ anyₚ (a 2) +ₚ anyₚ (a 3) +ₚ anyₚ (a 4)) (omega arith)
 
 pub five-before : (ws : List ℕ) {back : List ℕ} (step : ℕ) (d : List ℤ) (p q : ℕ) → back ≡ reversed ws → p + 4 * step ≡ q → fiveSum back (after step d p) ≡ fiveSum ws (before step d q)
-five-before ws step d p q r e = rw r (turned ws (after step d p) ∙ five-agree ws (λ k. after step d p (4 - k)) (before step d q) at)
+five-before ws step d p q r e = rw r (turned ws (after step d p) ∙ five-sum-same ws (λ k. after step d p (4 - k)) (before step d q) at)
   where
     at : (k : ℕ) → k ≤ 4 → after step d p (4 - k) ≡ before step d q k
     at k l = let i : 4 ≡ (4 - k) + k = omega arith in let m : p + (4 - k) * step ≡ q - k * step = omega (arith, ap (λ n. n * step) i) in ap (λ n. getD d n (pos 0)) m

@@ -1,7 +1,6 @@
 -- A cell is green by the parity of its row and column together. Assumes nothing.
 use mathlib.Core.Path.{_≡_, refl, sym, _∙_, ap}
 use mathlib.Core.Bool.{Bool, true, false, cond}
-use mathlib.Core.List.{List}
 use Prim.Native.Nat.{ℕ, zero, suc, _+_, _%_, _≤_, _<_}
 use native.Mathlib.Nat.{mod-mod}
 use native.Mathlib.Omega.{arith}
@@ -12,7 +11,7 @@ use Rattle.bayer.specs.declared.colour.Colour.the-variants.{Green}
 use Rattle.bayer.specs.Colour.{colours, colourAt, same}
 use Rattle.bayer.specs.Mirror.{mirror}
 use Rattle.bayer.proofs.MirrorLaws.{Reflected}
-use Rattle.bayer.proofs.ColourLaws.{parity-colour, mirror-colour, table, agree}
+use Rattle.bayer.proofs.ColourLaws.{parity-colour, mirror-colour, cells, by-layout}
 use Rattle.green_rows.specs.Buffer.{isOdd, startsGreen}
 
 -- whether the first cell of a layout is green
@@ -25,11 +24,8 @@ is l i j = same (colourAt l i j) Green
 abbrev shall : (l i j : ℕ) → Bool
 shall l i j = isOdd (i + j + corner l)
 
-abbrev block : (ℕ → ℕ → ℕ → Bool) → (l : ℕ) → List (List Bool)
-block c l = table (λ i. table (c l i) 2) 2
-
 -- one test of all layouts
-test : table (block is) 4 ≡ table (block shall) 4
+test : cells is ≡ cells shall
 unfolding colours colourAt
 test = refl
 
@@ -44,7 +40,7 @@ odd-bit (suc (suc n)) h = absurd (let z : ⊥ = omega arith in z)
 cell-green : (l i j : ℕ) → l ≤ 3 → same (colourAt l i j) Green ≡ isOdd (i + j + corner l)
 cell-green l i j h =
     ap (λ c. same c Green) (parity-colour l i j (i % 2) (j % 2) (sym (mod-mod i 2)) (sym (mod-mod j 2)))
-    ∙ agree (is l (i % 2)) (shall l (i % 2)) 2 (agree (λ i. table (is l i) 2) (λ i. table (shall l i) 2) 2 (agree (block is) (block shall) 4 test l (omega arith)) (i % 2) (omega arith)) (j % 2) (omega arith)
+    ∙ by-layout is shall test l i j h
     ∙ odd-by (i % 2 + j % 2 + corner l) (i + j + corner l) (omega arith)
 
 -- the parity of the position n − b

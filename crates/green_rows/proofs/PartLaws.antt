@@ -5,7 +5,8 @@ use mathlib.Core.Path.{_≡_, refl, ap, _∙_}
 use native.Mathlib.Nat.{add-sub-cancel-left}
 use native.Mathlib.Omega.{arith}
 use lib.ListN.{length, take, drop, getD, length-append, length-drop, drop-of-length-le}
-use lib.Seq.{length-take-le, take-all, take-at, drop-at, take-take, drop-drop, getD-take, getD-drop}
+use lib.Seq.{length-take-le, take-all, take-at, drop-at, drop-drop, getD-take, getD-drop}
+use Rattle.whole.proofs.Lists.{part-take}
 use Rattle.bayer.specs.View.{rowOf}
 use Rattle.green_rows.specs.Table.{part}
 
@@ -34,13 +35,6 @@ module _ {A : Type 0} where
   -- by its entries
   pub getD-part : (a k : ℕ) (l : List A) (j : ℕ) (d : A) → j < k → getD (part a k l) j d ≡ getD l (a + j) d
   getD-part a k l j d h = getD-take k (drop a l) j d h ∙ getD-drop a l j d
-
-  -- a part that lies among the first n
-  part-take : (a k n : ℕ) (l : List A) → a + k ≤ n → part a k (take n l) ≡ part a k l
-  part-take zero k n l h = take-take k n l (omega arith)
-  part-take (suc a) k zero l h = absurd (let z : ⊥ = omega arith in z)
-  part-take (suc a) k (suc n) [] h = refl
-  part-take (suc a) k (suc n) (x ∷ l) h = part-take a k n l (omega arith)
 
   -- a part of a part
   pub part-part : (a k b n : ℕ) (l : List A) → a + k ≤ n → part a k (part b n l) ≡ part (b + a) k l

@@ -17,6 +17,7 @@ use Rattle.gbtf.specs.Difference.{difference, gradient}
 use Rattle.gbtf.specs.Direction.{directionSum, fiveSum, total, direction}
 use Rattle.gbtf.specs.Fusion.{green}
 use Rattle.gbtf.specs.Mosaic.{Mosaic, continued}
+use Rattle.gbtf.proofs.PixelLaws.{five-sum-same}
 use Rattle.gbtf.specs.GreenAt.{differenceAlong, gradientAlong, isGreen, DH, DV, GH, GV, threeFrom, window, east, west, north, south, greenAt}
 use Rattle.green_rows.specs.Table.{table, joined}
 use Rattle.green_rows.specs.Directions.{threeIn, windowIn, directionIn}
@@ -66,10 +67,6 @@ gradient-along : (step : ℕ) (d : List ℤ) (k : ℕ) (D : ℤ → ℤ) (p b : 
 gradient-along step d k D p b e f =
     let c : p + 2 ≡ p + 1 + 1 = omega arith in
     ap₂ gradient (e ∙ ap D (sym (behind p b 1))) (f ∙ ap D (ap (λ n. subℕ n b) c ∙ sym (ahead (p + 1) b 1)))
-
--- five-sums of the same five
-pub five-agree : (ws : List ℕ) (D E : ℕ → ℤ) → ((k : ℕ) → k ≤ 4 → D k ≡ E k) → fiveSum ws D ≡ fiveSum ws E
-five-agree ws D E h = rw (h 0 (lit≤ tt), h 1 (lit≤ tt), h 2 (lit≤ tt), h 3 (lit≤ tt), h 4 (lit≤ tt))
 
 -- three gradients from place q on, in a row whose places are n − c
 three-at : (g : List ℕ) (G : ℤ → ℕ) (q n c : ℕ) → ((e : ℕ) → e < 3 → getD g (q + e) 0 ≡ G (subℕ (n + e) c)) → threeIn g q ≡ threeFrom G (subℕ n c)
@@ -262,17 +259,17 @@ module _ (f : Frame) (first : ℕ) (rows : List ℕ) (v s : ℕ) (lent : Lent f 
 
     east-is : directionIn ws s dh′ dv′ gh′ gv′ j 0 ≡ east ws m (pos v) (pos j)
     east-is = ap₂ direction
-        (five-agree ws _ _ (λ k l. (let a : s + (j + 7) + k * 1 ≡ 1 * s + (j + 5 + k + 2) = omega arith in ap (λ n. getD dh′ n (pos 0)) a) ∙ DH-at x hx x-at hx-at 1 (j + 5 + k) (lit≤ tt) (omega arith) ∙ ap₂ (DH m) here (onward k)))
+        (five-sum-same ws _ _ (λ k l. (let a : s + (j + 7) + k * 1 ≡ 1 * s + (j + 5 + k + 2) = omega arith in ap (λ n. getD dh′ n (pos 0)) a) ∙ DH-at x hx x-at hx-at 1 (j + 5 + k) (lit≤ tt) (omega arith) ∙ ap₂ (DH m) here (onward k)))
         (ap directionSum (across (j + 6) (j + 4) (omega arith) (omega arith) ∙ ap (window (GH m) (pos v -ℤ pos 1)) (eq-by (subₚ (j + 4 + 3) 7) (natₚ j) (omega arith))))
 
     west-is : directionIn ws s dh′ dv′ gh′ gv′ j 1 ≡ west ws m (pos v) (pos j)
     west-is = ap₂ direction
-        (five-agree ws _ _ (λ k l. (let a : s + (j + 7) - k * 1 ≡ 1 * s + (j + 5 - k + 2) = omega arith in ap (λ n. getD dh′ n (pos 0)) a) ∙ DH-at x hx x-at hx-at 1 (j + 5 - k) (lit≤ tt) (omega arith) ∙ ap₂ (DH m) here (back k l)))
+        (five-sum-same ws _ _ (λ k l. (let a : s + (j + 7) - k * 1 ≡ 1 * s + (j + 5 - k + 2) = omega arith in ap (λ n. getD dh′ n (pos 0)) a) ∙ DH-at x hx x-at hx-at 1 (j + 5 - k) (lit≤ tt) (omega arith) ∙ ap₂ (DH m) here (back k l)))
         (ap directionSum (across (j + 4) (j + 2) (omega arith) (omega arith) ∙ ap (window (GH m) (pos v -ℤ pos 1)) (eq-by (subₚ (j + 2 + 3) 7) (natₚ j -ₚ natₚ 2) (omega arith))))
 
     north-is : directionIn ws s dh′ dv′ gh′ gv′ j 2 ≡ north ws m (pos v) (pos j)
     north-is = ap₂ direction
-        (five-agree ws _ _ (λ k l. (let a : 4 * s + (j + 7) - k * s ≡ (4 - k) * s + (j + 7) = up-rows k l in ap (λ n. getD dv′ n (pos 0)) a) ∙ DV-at x x-at dvs (4 - k) (j + 7) (omega arith) (omega arith) (omega arith)
+        (five-sum-same ws _ _ (λ k l. (let a : 4 * s + (j + 7) - k * s ≡ (4 - k) * s + (j + 7) = up-rows k l in ap (λ n. getD dv′ n (pos 0)) a) ∙ DV-at x x-at dvs (4 - k) (j + 7) (omega arith) (omega arith) (omega arith)
         ∙ ap₂ (DV m) (eq-by (subₚ (v + (4 - k + 2)) 6) (natₚ v -ₚ natₚ k) (omega arith)) (at-place j 7)))
         (ap directionSum (steep (j + 6) (v + 4) 0 (omega arith) (lit≤ tt) refl ∙ ap (λ z. window (GV m) z (pos j -ℤ pos 1)) (eq-by (subₚ (v + 4) 6) (natₚ v -ₚ natₚ 2) (omega arith))))
       where
@@ -281,7 +278,7 @@ module _ (f : Frame) (first : ℕ) (rows : List ℕ) (v s : ℕ) (lent : Lent f 
 
     south-is : directionIn ws s dh′ dv′ gh′ gv′ j 3 ≡ south ws m (pos v) (pos j)
     south-is = ap₂ direction
-        (five-agree ws _ _ (λ k l. (let a : 4 * s + (j + 7) + k * s ≡ (4 + k) * s + (j + 7) = omega arith in ap (λ n. getD dv′ n (pos 0)) a) ∙ DV-at x x-at dvs (4 + k) (j + 7) (omega arith) (omega arith) (omega arith)
+        (five-sum-same ws _ _ (λ k l. (let a : 4 * s + (j + 7) + k * s ≡ (4 + k) * s + (j + 7) = omega arith in ap (λ n. getD dv′ n (pos 0)) a) ∙ DV-at x x-at dvs (4 + k) (j + 7) (omega arith) (omega arith) (omega arith)
         ∙ ap₂ (DV m) (eq-by (subₚ (v + (4 + k + 2)) 6) (natₚ v +ₚ natₚ k) (omega arith)) (at-place j 7)))
         (ap directionSum (steep (2 * s + (j + 6)) (v + 6) 2 refl (lit≤ tt) refl ∙ ap (λ z. window (GV m) z (pos j -ℤ pos 1)) (at-place v 6)))
 

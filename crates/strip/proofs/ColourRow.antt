@@ -22,7 +22,7 @@ use Rattle.green_rows.specs.Buffer.{startsGreen, AllAtMost}
 use Rattle.green_rows.specs.Extended.{Lent}
 use Rattle.green_rows.proofs.TableLaws.{length-table}
 use Rattle.green_rows.proofs.PartLaws.{part-length, row-is}
-use Rattle.green_rows.proofs.BoundLaws.{row-at-most}
+use Rattle.bayer.proofs.ViewLaws.{row-at-most}
 use Rattle.green_rows.proofs.ParityLaws.{starts-below}
 use Rattle.green_rows.proofs.GreenRow.{row-start, row-end}
 use Rattle.fill_rows.specs.Rows.{ownIn, otherIn, opposite}

@@ -1,3 +1,5 @@
+pub mod Rounding
+pub mod Tests
 pub mod Pairs
 pub mod Magnitudes
 pub mod FloorLaws

@@ -19,6 +19,7 @@ use lib.IntN.{ℤ, pos, negsuc, natAbs, _+ℤ_, _-ℤ_, _*ℤ_}
 use mir.Syntax.{Width, w32, w64}
 use mir.Val.{Fits, SFits, hbits, ofZ, toZ}
 use mir.ValLaws.{toZ-pos, toZ-ofZ}
+use Rattle.whole.proofs.Tests.{first, second}
 use Rattle.whole.proofs.Pairs.{sub-pos}
 use Rattle.whole.specs.Floor.{floorDiv}
 use Rattle.whole.proofs.FloorLaws.{shr-floor}
@@ -101,14 +102,6 @@ parts {w} (bin o a b) = (parts a && ltb (bound a) (2 ^ hbits w)) && (parts b && 
 abbrev pub ok : {w : Width} → E w → Bool
 ok {w} e = parts e && ltb (bound e) (2 ^ hbits w)
 
-fst-of : (a b : Bool) → T (a && b) → T a
-fst-of true b t = tt
-fst-of false b t = t
-
-snd-of : (a b : Bool) → T (a && b) → T b
-snd-of true b t = t
-snd-of false b t = absurd t
-
 apply-within : (o : Op) (x y : ℤ) {m k : ℕ} → natAbs x ≤ m → natAbs y ≤ k → natAbs (apply o x y) ≤ boundOf o m k
 apply-within plus x y h k = add-within x y h k
 apply-within minus x y h k = sub-within x y h k
@@ -123,7 +116,7 @@ within («as» v e) = within e
 within (bin o a b) = apply-within o (val a) (val b) (within a) (within b)
 
 pub fits : {w : Width} (e : E w) → T (ok e) → SFits w (val e)
-fits {w} e t = fits-within (val e) (within e) (ltb→lt (bound e) (2 ^ hbits w) (snd-of (parts e) (ltb (bound e) (2 ^ hbits w)) t))
+fits {w} e t = fits-within (val e) (within e) (ltb→lt (bound e) (2 ^ hbits w) (second (parts e) (ltb (bound e) (2 ^ hbits w)) t))
 
 -- what is written as bits is read back
 pub back : (w : Width) (z : ℤ) {y : ℤ} → z ≡ y → SFits w y → toZ w (ofZ w z) ≡ y
@@ -134,11 +127,11 @@ value {w} (lit n) t = toZ-pos w n (ltb→lt n (2 ^ hbits w) t)
 value {w} (nat n m h) t = toZ-pos w n (lt-of-le-of-lt h (ltb→lt m (2 ^ hbits w) t))
 value {w} (int z m h) t = toZ-ofZ w z (fits (int z m h) t)
 value {w} (raw n z m e h) t = e
-value {w} («as» v e) t = back w (toZ v (bits e)) (value e (fst-of (ok e) (ltb (bound e) (2 ^ hbits w)) t)) (fits («as» v e) t)
+value {w} («as» v e) t = back w (toZ v (bits e)) (value e (first (ok e) (ltb (bound e) (2 ^ hbits w)) t)) (fits («as» v e) t)
 value {w} (bin o a b) t =
-    let s = fst-of (ok a && ok b) (ltb (boundOf o (bound a) (bound b)) (2 ^ hbits w)) t in
+    let s = first (ok a && ok b) (ltb (boundOf o (bound a) (bound b)) (2 ^ hbits w)) t in
     back w (apply o (toZ w (bits a)) (toZ w (bits b)))
-    (ap₂ (apply o) (value a (fst-of (ok a) (ok b) s)) (value b (snd-of (ok a) (ok b) s)))
+    (ap₂ (apply o) (value a (first (ok a) (ok b) s)) (value b (second (ok a) (ok b) s)))
     (fits (bin o a b) t)
 
 -- a value of the narrower type v, of which only its type bounds it, cast to w
@@ -150,10 +143,10 @@ made-val (lit n) t = refl
 made-val (nat n m h) t = refl
 made-val (int z m h) t = refl
 made-val (raw n z m e h) t = refl
-made-val {w} («as» v e) t = value e (fst-of (ok e) (ltb (bound e) (2 ^ hbits w)) t)
+made-val {w} («as» v e) t = value e (first (ok e) (ltb (bound e) (2 ^ hbits w)) t)
 made-val {w} (bin o a b) t =
-    let s = fst-of (ok a && ok b) (ltb (boundOf o (bound a) (bound b)) (2 ^ hbits w)) t in
-    ap₂ (apply o) (value a (fst-of (ok a) (ok b) s)) (value b (snd-of (ok a) (ok b) s))
+    let s = first (ok a && ok b) (ltb (boundOf o (bound a) (bound b)) (2 ^ hbits w)) t in
+    ap₂ (apply o) (value a (first (ok a) (ok b) s)) (value b (second (ok a) (ok b) s))
 
 pub asked : {w : Width} (e : E w) → T (ok e) → SFits w (made e)
 asked {w} e t = subst (SFits w) (sym (made-val e t)) (fits e t)

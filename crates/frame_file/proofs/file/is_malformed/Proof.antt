@@ -1,7 +1,8 @@
 -- `frame_file::file::is_malformed` meets its contract, by its tests in their order. Assumes nothing.
-use Prim.Native.Nat.{_≤_, _+_, _*_}
+use Prim.Native.Nat.{ℕ, _≤_, _+_, _*_}
 use mathlib.Core.Bool.{not, _||_}
 use mathlib.Core.Path.{_≡_}
+use mathlib.Core.List.{List}
 use native.Mathlib.Omega.{arith}
 use native.Mathlib.Nat.{mul-le-mul}
 use borrow.Author.Tests.{lt-ltb, le-ltb, eq-eqb, ne-eqb}
@@ -28,7 +29,10 @@ unfolding malformed
 returns-3 c = rw (le-ltb 8202 _ (c .before .before .before .if1 .left), le-ltb _ 10 (c .before .before .if2 .left), ne-eqb _ _ (c .if3 .taken))
 
 -- the first three tests are passed: the length decides
-started : (c : tie.Else3) → let bytes = c .before .before .before .before .before .args .bytes .now in
+abbrev file : tie.Else3 → List ℕ
+file c = c .before .before .before .before .before .args .bytes .now
+
+started : (c : tie.Else3) → let bytes = file c in
     malformed bytes ≡ (not (eqb (restLength bytes) (length (drop 5 bytes))) || not (eqb (restLength bytes) (5 + 2 * frameOf bytes .width * frameOf bytes .height)))
 unfolding malformed
 started c = rw (le-ltb 8202 _ (c .before .before .before .if1 .left), le-ltb _ 10 (c .before .before .if2 .left), eq-eqb _ _ (c .if3 .left))
@@ -40,7 +44,9 @@ sub-if4 : tie.Need-sub-if4
 sub-if4 c = search needs
 
 returns-4 : tie.Need-returns-4
-returns-4 c = rw (started (c .before .before), length-drop 5, ← c .before .four-bytes .ensures, ne-eqb _ _ (c .if4 .taken))
+returns-4 c =
+    let bytes = file (c .before .before) in
+    rw (started (c .before .before), ne-eqb (restLength bytes) (length (drop 5 bytes)) (λ e. omega (arith, e, c .if4 .taken, c .before .four-bytes .ensures, length-drop 5 bytes)))
 
 two-bytes-requires : tie.Need-two-bytes-requires
 two-bytes-requires c κs = search needs
@@ -70,7 +76,11 @@ add-result c =
     omega (arith, mul-le-mul a b)
 
 returns-5 : tie.Need-returns-5
-returns-5 c = rw (started (c .before .before .before .before), length-drop 5, ← c .before .before .before .four-bytes .ensures, eq-eqb _ _ (c .before .before .if4 .left), ← c .before .two-bytes .ensures, ← c .two-bytes2 .ensures)
+returns-5 c =
+    let d = c .before .before .before in
+    let bytes = file (d .before) in
+    let whole : restLength bytes ≡ length (drop 5 bytes) = omega (arith, c .before .before .if4 .left, d .four-bytes .ensures, length-drop 5 bytes) in
+    rw (started (d .before), eq-eqb (restLength bytes) (length (drop 5 bytes)) whole, ← d .four-bytes .ensures, ← c .before .two-bytes .ensures, ← c .two-bytes2 .ensures)
 
 pub is-malformed-spec : {M : Type 1} → statement M
 is-malformed-spec =
