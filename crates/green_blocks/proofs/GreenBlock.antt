@@ -21,7 +21,8 @@ use Rattle.green_blocks.specs.Block.{greenRowIn}
 use Rattle.green_rows.specs.Extended.{column, extendedRow, Lent}
 use Rattle.green_rows.proofs.TableLaws.{length-table, table-same, table-part, joined-same, joined-rows, part-within}
 use Rattle.green_rows.proofs.PartLaws.{part-length, first-part, other-part, getD-part, part-part}
-use Rattle.green_rows.proofs.BoundLaws.{all-part, extended-at-most, differences-within, gradients-at-most}
+use Rattle.whole.proofs.Lists.{all-part}
+use Rattle.green_rows.proofs.BoundLaws.{extended-at-most, differences-within, gradients-at-most}
 use Rattle.green_rows.proofs.ParityLaws.{odd-by, starts-below, starts-next}
 use Rattle.green_rows.proofs.RowLaws.{odd-row}
 use Rattle.green_rows.proofs.GreenRow.{row-start, row-end, Given, fused}

@@ -28,7 +28,7 @@ use Rattle.demosaic.specs.Exact.{exactSample, printed}
 use Rattle.demosaic.proofs.SampleError.{printed-error}
 use Rattle.demosaic.proofs.FrameLocal.{piece-sample, piece-exactSample}
 use Rattle.strip.specs.Strip.{stripPlane, heldAfter, Promise, threePlanes}
-use Rattle.strip.specs.Demand.{StripCall, numberOf, Accepted, OfFrame, Called, CalledAll, CoveredBy, Demanded}
+use Rattle.strip.specs.Demand.{StripCall, numberOf, Accepted, OfFrame, Called, CalledAll, CoveredBy, Demanded, Cited}
 use Rattle.strip.proofs.StripLaws.{Fits, fits, plane-length, plane-at, promised}
 
 abbrev lent : StripCall → Planes → Colour → List ℕ
@@ -161,6 +161,9 @@ module _ (f : Frame) (readings : List ℕ) where
     where
       a : After (f .width) (f .height) rule (map callOf l) p q
       a = after-calls (f .width) (f .height) rule (map callOf l) p q e (runs l p q h)
+
+  pub cited : {l : List StripCall} {p q : Planes} → Demanded f readings l p q → Cited f readings l q
+  cited d = record { red = d .near Red; green = d .near Green; blue = d .near Blue }
 
   -- NO SEAMS: two lists of calls, however they cut the frame and whatever the planes held before, leave the same samples in every row that both cover
   pub no-seams : (l l′ : List StripCall) (p p′ q q′ : Planes) → ((k : Colour) → length (p k) ≡ f .width * f .height) → ((k : Colour) → length (p′ k) ≡ f .width * f .height)

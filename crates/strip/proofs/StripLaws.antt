@@ -15,9 +15,11 @@ use Rattle.bayer.specs.Piece.{pieceStart, pieceRows, pieceOf}
 use Rattle.bayer.proofs.RefusalLaws.{off, neither}
 use Rattle.gbtf.specs.Weights.{scale, evenWeights}
 use Rattle.demosaic.specs.Sample.{sample}
+use Rattle.demosaic.proofs.SampleRange.{sample-range}
 use Rattle.demosaic.proofs.FrameLocal.{piece-sample}
 use Rattle.green_rows.specs.Table.{table}
-use Rattle.green_rows.proofs.TableLaws.{length-table, getD-table, table-same, length-joined, getD-joined, joined-same}
+use Rattle.green_rows.proofs.TableLaws.{length-table, getD-table, table-same, table-all, length-joined, getD-joined, joined-same}
+use Rattle.green_rows.proofs.BoundLaws.{all-joined}
 use Rattle.strip.specs.Strip.{anyAbove, stripNumber, stripPlane, frameRows, heldAfter, Promise}
 
 -- ---- tests
@@ -110,6 +112,14 @@ pub promised : {f : Frame} {a n : ℕ} {piece : List ℕ} {lent after : Colour �
 promised p Red = p .red
 promised p Green = p .green
 promised p Blue = p .blue
+
+-- every sample of what an accepted call leaves is at most 65520
+pub promised-range : {f : Frame} {a n : ℕ} {piece : List ℕ} {lent after : Colour → List ℕ} {answer : ℕ} → Promise f a n piece lent answer after → answer ≡ 0 → (k : Colour) (s : ℕ) → getD (after k) s 0 ≤ 65520
+unfolding heldAfter stripPlane
+promised-range {f} {a} {n} {piece} {lent} p e k s =
+    let w = fits f a n piece _ _ _ (sym (p .number) ∙ e) in
+    rw (promised p k, e)
+    (all-joined (λ x. x ≤ 65520) 0 (omega arith) _ n (λ i. table-all (λ x. x ≤ 65520) _ (f .width) (omega arith) (λ j _. sample-range scale evenWeights f (pieceStart a) piece (w .range) k (a + i) j)) s)
 
 -- DEMAND 2: an accepted call leaves the samples of rows a to a + n − 1 of every frame whose rows its piece is. Nothing is asked of the frame's other rows
 pub demand-2 : (f : Frame) (readings : List ℕ) (a n : ℕ) {lent after : Colour → List ℕ} {answer : ℕ} → Promise f a n (pieceOf (f .width) (f .height) a n readings) lent answer after → answer ≡ 0 → (k : Colour) → after k ≡ frameRows f readings a n k

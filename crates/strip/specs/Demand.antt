@@ -56,12 +56,22 @@ abbrev pub CoveredBy : List StripCall → (i : ℕ) → Type 0
 CoveredBy [] i = ⊥
 CoveredBy (c ∷ l) i = (Accepted c × (c .first ≤ i) × (i < c .first + c .count)) ⊎ CoveredBy l i
 
+-- in every covered row the samples of plane k are within so many hundredths of the exact reconstruction of the frame
+abbrev pub NearExact : Frame → (readings : List ℕ) → List StripCall → (q : Planes) (k : Colour) (hundredths : ℕ) → Type 0
+NearExact f readings l q k hundredths = (i j : ℕ) → CoveredBy l i → j < f .width → Within (natural (getD (q k) (i * f .width + j) 0)) (exactSample evenWeights (lit≤ tt) f 0 readings k i j) hundredths 100
+
 -- DEMAND 3, of the planes p before the list and q after it
 pub record Demanded (f : Frame) (readings : List ℕ) (l : List StripCall) (p q : Planes) : Type 0 where
-  -- in a covered row every sample is within the printed hundredths of the exact reconstruction of the frame
-  pub near : (k : Colour) (i j : ℕ) → CoveredBy l i → j < f .width → Within (natural (getD (q k) (i * f .width + j) 0)) (exactSample evenWeights (lit≤ tt) f 0 readings k i j) (printed k) 100
-  -- and the observed one is 16 times the reading
+  -- each plane is within its printed hundredths
+  pub near : (k : Colour) → NearExact f readings l q k (printed k)
+  -- in a covered row the observed sample is 16 times the reading
   pub observed : (i j : ℕ) → CoveredBy l i → j < f .width → getD (q (colourAt (f .layout) i j)) (i * f .width + j) 0 ≡ 16 * getD readings (i * f .width + j) 0
   -- every other row is as before
   pub others : (k : Colour) (i j : ℕ) → ¬ CoveredBy l i → j < f .width → getD (q k) (i * f .width + j) 0 ≡ getD (p k) (i * f .width + j) 0
   pub lengths : (k : Colour) → length (q k) ≡ f .width * f .height
+
+-- the printed error as users cite it
+pub record Cited (f : Frame) (readings : List ℕ) (l : List StripCall) (q : Planes) : Type 0 where
+  pub red : NearExact f readings l q Red 151
+  pub green : NearExact f readings l q Green 51
+  pub blue : NearExact f readings l q Blue 151

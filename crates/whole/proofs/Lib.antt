@@ -1,4 +1,4 @@
-pub mod Rounding
+pub mod BelowZero
 pub mod Tests
 pub mod Pairs
 pub mod Magnitudes

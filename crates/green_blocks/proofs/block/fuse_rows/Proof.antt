@@ -12,7 +12,7 @@ use Rattle.green_rows.specs.Buffer.{greenIn}
 use Rattle.green_blocks.specs.Block.{greenRowIn}
 use Rattle.green_rows.proofs.TableLaws.{length-table, part-within, Handed, joined-none, joined-turn, joined-done}
 use Rattle.green_rows.proofs.PartLaws.{part-length, row-is}
-use Rattle.green_rows.proofs.BoundLaws.{all-part}
+use Rattle.whole.proofs.Lists.{all-part}
 use Rattle.green_blocks.proofs.block.fuse_rows.Statement.{statement}
 use Rattle.green_blocks.proofs.block.fuse_rows.Tie as tie
 
