@@ -6,16 +6,25 @@
 The answers come from reference/ and from nothing else. Each case is a line of stdin and a line of stdout.
 A line is a letter and then whole numbers, single spaces between them; a '#' line is a comment and has no answer.
 
-S W H layout a n  P R G B  width seed base down across oddrow oddcol checker from step kind amount shape at value at value first
-    A strip call. P, R, G, B are the lengths of the piece and of the planes that are lent; the rest is the recipe of their contents.
-    Answer: the number of strip, that of strip_check, and for each plane sum, checksum, first and last sample.
+S W H layout  entry choice method  a n  P R G B  width seed base down across oddrow oddcol checker from step kind amount shape at value at value first
+  nb given advance {first count method smoothing}*given
+    A strip call. P, R, G, B are the lengths of the piece and of the planes that are lent; from width to first it is the recipe of their contents.
+    entry, choice, method and the bands are room for requests of document 02. They say that nothing is named, entry 0, choice and method 255,
+    nb 255 and given and advance 0, and the program does not read them. Else entry 1 is the preview's, and nb is the number of bands in the table
+    that is lent: band t is number t % given of those given, 6 at the most, with advance (t / given) added to its first row.
+    Answer: the number of rokzimp_strip, that of rokzimp_strip_check, and for each plane sum, checksum, first and last sample.
 V W row length
     A row view; sample t of the plane is t. Answer: number, start, length and checksum of what is shown.
 Q W H layout row red blue
     A partner view of planes of these lengths; sample t of red is t, of blue 32768 + t.
     Answer: number, 0 for red or 2 for blue, start, length and checksum of what is shown; 0 0 0 0 if nothing is.
-F c s s s s A A A A
-    Green of reading c by fusion of east, west, north, south: direction sums, and five-sums plus 524288. Answer: green in units.
+R H a n
+    The rows that a strip is lent of the mosaic. Answer: rokzimp_piece_start and rokzimp_piece_rows.
+F choice c s s s s A A A A
+    Green of reading c by fusion of east, west, north, south: direction sums, and five-sums plus 2097152; choice is 0, and room like that above.
+    Answer: green in units.
+
+A line has 63 numbers at the most, and stdin no more bytes than the program has room for.
 
 Recipe. A number named in it counts modulo 65536, but for width, seed and at. The generator steps x to 1664525 x + 1013904223 modulo 2^32.
 Reading t of the piece is at row i = t / width + first and column j = t % width, of the frame; x is the generator after t + 1 steps from seed. With
@@ -27,20 +36,20 @@ Checksum: from 0, for each sample y in order, h becomes 1664525 h + y + 1 modulo
 """
 import os
 import random
+import re
 import sys
 
-HERE = os.path.dirname(os.path.abspath(__file__))
-ROOT = os.path.dirname(HERE)
-sys.dont_write_bytecode = True
-sys.path.insert(0, os.path.join(ROOT, 'reference'))
-import reference as r  # noqa: E402
-import vectors  # noqa: E402
+from stage import ROOT, RULES, STAGE
+import reference as r
+import vectors
 
-RULES = r.Rules('base')
 M16, M32 = 2 ** 16, 2 ** 32
 NONE = 2 ** 63                       # a position that no piece has
 BIG = [2 ** 12 + 1, 2 ** 16, 2 ** 32 - 1, 2 ** 32, 2 ** 63, 2 ** 64 - 8, 2 ** 64 - 2, 2 ** 64 - 1]
 MOST_PIECE, MOST_PLANE = 4096 * 22, 4096 * 8 + 8
+LEAST = RULES.min_size               # of width and height
+NO_STYLE, NO_BANDS = [0, 255, 255], [255, 0, 0]
+ABOVE_ZERO = 2 ** 21                 # added to a five-sum; above 16380 times the largest total of weights
 
 
 def step(x):
@@ -97,8 +106,9 @@ def checksum(samples):
 
 # ------------------------------------------------------------ answers, by the reference
 def answer_S(v):
-    W, H, layout, a, n, P, R, G, B, width, seed = v[:11]
-    p, puts, first = v[11:22], [(v[22], v[23]), (v[24], v[25])], v[26]
+    (W, H, layout), (a, n, P, R, G, B, width, seed) = v[:3], v[6:14]
+    p, puts, first = v[14:25], [(v[25], v[26]), (v[27], v[28])], v[29]
+    assert v[3:6] == NO_STYLE and v[30:] == NO_BANDS, v
     piece = expand_piece(P, max(width, 1), seed, p, puts, first)
     planes = [expand_plane(l, seed + k) for k, l in ((1, R), (2, G), (3, B))]
     f = r.Frame(W, H, layout)
@@ -125,12 +135,17 @@ def answer_Q(v):
     return [num, which or 0, start, shown, checksum(range(at, at + shown))]
 
 
+def answer_R(v):
+    lo, hi = r.strip_rows(*v)
+    return [lo, max(0, hi - lo)]
+
+
 def answer_F(v):
-    ts, As = [r.guard(s) for s in v[1:5]], [A - 524288 for A in v[5:9]]
-    return [r.stop(16 * v[0] + r.fusion(r.shares(ts, RULES.scale), As, 5))]
+    T, ts, As = sum(r.WEIGHTS[v[0]]), [r.guard(s) for s in v[2:6]], [A - ABOVE_ZERO for A in v[6:]]
+    return [r.stop(16 * v[1] + r.fusion(r.shares(ts, RULES.scale), As, T))]
 
 
-ANSWER = {'S': answer_S, 'V': answer_V, 'Q': answer_Q, 'F': answer_F}
+ANSWER = {'S': answer_S, 'V': answer_V, 'Q': answer_Q, 'R': answer_R, 'F': answer_F}
 
 
 # ------------------------------------------------------------ cases
@@ -142,11 +157,11 @@ class Maker:
 
     def add(self, kind, *numbers):
         v = list(numbers)
-        assert all(0 <= n < 2 ** 64 for n in v), v
+        assert len(v) < 64 and all(0 <= n < 2 ** 64 for n in v), v
         ans = ANSWER[kind](v)
         self.lines.append(' '.join(map(str, [kind] + v)))
         self.answers.append(' '.join(map(str, ans)))
-        key = kind + str(ans[0]) if kind != 'F' else 'F'
+        key = kind + str(ans[0]) if kind in 'SVQ' else kind
         self.count[key] = self.count.get(key, 0) + 1
         return ans
 
@@ -191,8 +206,8 @@ class Maker:
         recipe = recipe or self.recipe(w, h)
         puts = self.impulses(P) if puts is None else puts + [(NONE, 0)] * (2 - len(puts))
         seed = r.jump(self.g.randrange(M32) if seed is None else seed, lo * w)
-        return self.add('S', W, H, layout, a, n, P, *planes, w, seed, *recipe.numbers(),
-                        *[n for put in puts for n in put], lo)
+        return self.add('S', W, H, layout, *NO_STYLE, a, n, P, *planes, w, seed, *recipe.numbers(),
+                        *[n for put in puts for n in put], lo, *NO_BANDS)
 
     def cut(self, H):
         g = self.g
@@ -206,10 +221,10 @@ class Maker:
 
     def size(self, top=40):
         g = self.g
-        return g.choice((8, 9, g.randrange(8, 20), g.randrange(8, top + 1)))
+        return g.choice((LEAST, LEAST + 1, g.randrange(LEAST, LEAST + 12), g.randrange(LEAST, top + 1)))
 
     def accepted(self, count):
-        self.note('strips of frames of 8 to 40 rows and columns, cut anywhere')
+        self.note('strips of frames of %d to 40 rows and columns, cut anywhere' % LEAST)
         for k in range(count):
             W, H = self.size(), self.size()
             a, n = self.cut(H)
@@ -225,17 +240,18 @@ class Maker:
 
     def wide_and_tall(self):
         g = self.g
-        self.note('wide and tall frames; sizes 8 and 4096')
-        for W, H, a, n in ((4096, 8, 0, 8), (4096, 8, 7, 1), (4096, 9, 3, 2), (4095, 22, 7, 2), (4096, 30, 11, 8), (4096, 4096, 2000, 1),
+        self.note('wide and tall frames; sizes %d and 4096' % LEAST)
+        for W, H, a, n in ((4096, LEAST, 0, LEAST), (4096, LEAST, LEAST - 1, 1), (4096, 9, 3, 2), (4095, 22, 7, 2), (4096, 30, 11, 8), (4096, 4096, 2000, 1),
                            (4096, 4096, 4095, 1), (4096, 4096, 0, 2), (1025, 13, 5, 4), (2047, 8, 2, 3),
-                           (8, 4096, 0, 4096), (8, 4096, 4095, 1), (8, 4096, 4000, 96), (9, 4096, 1234, 30), (8, 4095, 4090, 5), (33, 901, 450, 20)):
+                           (LEAST, 4096, 0, 4096), (LEAST, 4096, 4095, 1), (LEAST, 4096, 4000, 96), (9, 4096, 1234, 30), (8, 4095, 4090, 5), (33, 901, 450, 20)):
             assert self.strip(W, H, g.randrange(4), a, n)[0] == 0
 
     def figures(self):
-        self.note('sizes 7, 8, 4096, 4097; readings 4095 and 4096')
-        for W, H in ((7, 8), (8, 7), (4097, 8), (8, 4097), (7, 4097), (8, 8), (8, 4096), (4096, 8)):
+        off, least = LEAST - 1, LEAST
+        self.note('sizes %d, %d, 4096, 4097; readings 4095 and 4096' % (off, least))
+        for W, H in ((off, least), (least, off), (4097, least), (least, 4097), (off, 4097), (least, least), (least, 4096), (4096, least)):
             for L in range(4):
-                inside = 8 <= W <= 4096 and 8 <= H <= 4096
+                inside = off not in (W, H) and 4097 not in (W, H)
                 a, n = (0, 1) if inside else (0, 2)
                 assert self.strip(W, H, L, a, n)[0] == (0 if inside else 1)
         for v, num in ((4095, 0), (4096, 6), (65535, 6)):
@@ -287,8 +303,8 @@ class Maker:
             true = (W, H, a, n)
             t = k % 6
             if t == 0: L = g.choice((4, 5, 255))
-            if t == 1: W = g.choice([0, 1, 7, 4097] + BIG)
-            if t == 2: H = g.choice([0, 1, 7, 4097] + BIG)
+            if t == 1: W = g.choice([0, 1, LEAST - 1, 4097] + BIG)
+            if t == 2: H = g.choice([0, 1, LEAST - 1, 4097] + BIG)
             if t == 3: n = g.choice([0, H - a + 1] + BIG)
             if t == 4: a = g.choice([H - n + 1, H] + BIG)
             if t == 5: a, n = g.choice(((2 ** 64 - 1, 1), (2 ** 64 - 1, 2), (2 ** 64 - n, n), (1, 2 ** 64 - 1), (a, 2 ** 64 - max(a, 1)),
@@ -305,8 +321,8 @@ class Maker:
             lo, hi = r.strip_rows(H, a, n)
             P, planes, puts = (hi - lo) * W, [n * W] * 3, []
             for t in g.sample(range(7), g.choice((2, 2, 3, 4))):
-                if t == 0: W = g.choice([0, 7, 4097] + BIG)
-                if t == 1: H = g.choice([0, 7, 4097] + BIG)
+                if t == 0: W = g.choice([0, LEAST - 1, 4097] + BIG)
+                if t == 1: H = g.choice([0, LEAST - 1, 4097] + BIG)
                 if t == 2: L = g.choice((4, 255))
                 if t == 3: n = g.choice([0] + BIG)
                 if t == 4: P += g.choice((1, -1))
@@ -318,12 +334,12 @@ class Maker:
     def row_views(self, count):
         g = self.g
         self.note('row views')
-        for W in (7, 8, 4096, 4097):
+        for W in (LEAST - 1, LEAST, 4096, 4097):
             for row in (0, 1, 7):
                 for d in (0, -1, 1):
                     self.add('V', W, row, min(max((row + 1) * W + d, 0), MOST_PLANE))
         for _ in range(count):
-            W = g.choice((self.size(), self.size(), g.randrange(8, 4097), 4096, g.choice([0, 7, 4097] + BIG)))
+            W = g.choice((self.size(), self.size(), g.randrange(LEAST, 4097), 4096, g.choice([0, LEAST - 1, 4097] + BIG)))
             row = g.choice((0, 1, g.randrange(20), g.randrange(20), 2 ** 64 // max(W, 1), 2 ** 64 // max(W, 1) - 1, g.choice(BIG))) % 2 ** 64
             need = min((row + 1) * W, MOST_PLANE)
             self.add('V', W, row, g.choice((need, need, max(0, need - 1), min(need + 1, MOST_PLANE), 0, g.randrange(MOST_PLANE))))
@@ -339,27 +355,49 @@ class Maker:
             row = g.choice((0, H - 1, g.randrange(H)))
             if k % 2:
                 t = g.randrange(5)
-                if t == 0: W = g.choice([0, 7, 4096, 4097] + BIG)
-                if t == 1: H = g.choice([0, 7, 4096, 4097] + BIG)
+                if t == 0: W = g.choice([0, LEAST - 1, 4096, 4097] + BIG)
+                if t == 1: H = g.choice([0, LEAST - 1, 4096, 4097] + BIG)
                 if t == 2: L = g.choice((4, 255))
                 if t > 2: row = g.choice([H, 2 ** 64 // W - 1, 2 ** 64 // W] + BIG)
             need = min((row + 1) * W, 32768)
             more = [g.choice((0, 0, 1, W % M16, -1 if k % 3 == 0 else 0)) for _ in range(2)]
             self.add('Q', W, H, L, row, *[min(max(0, need + d), 32768) for d in more])
 
+    # -------------------------------------------------------- pieces
+    def pieces(self, count):
+        g = self.g
+        self.note('rows of the mosaic that a strip is lent')
+        for a, n in ((9, 2), (0, 1), (19, 1)):
+            self.add('R', 20, a, n)
+        for k in range(count):
+            H = g.choice((self.size(), 4096))
+            v = [H, *self.cut(H)]
+            for t in g.sample(range(3), k % 3):
+                v[t] = g.choice([0, 1, 7, 8, 4097, 2 ** 64 - 7] + BIG)
+            self.add('R', *v)
+
     # -------------------------------------------------------- shares and fusion
+    def fusion(self, choice, c, sums, As):
+        self.add('F', choice, c, *sums, *[A + ABOVE_ZERO for A in As])
+
     def fusions(self, count):
         g = self.g
         self.note('shares and fusion; exact halves')
         for A in (3, 2, -2, -3):
-            self.add('F', 2000, *[4] * 4, *[A + 524288] + [524288] * 3)
-        mk = vectors.Maker('base', self.seed)
+            self.fusion(0, 2000, [4] * 4, [A, 0, 0, 0])
+        mk = vectors.Maker(STAGE, self.seed)
         for _ in range(count):
-            v = mk.F()[2:]
+            choice, *v = mk.F()[1:]
             ss = [g.randrange(5) if t == 4 else t for t in v[:4]]
-            add = r.fusion(r.shares([r.guard(s) for s in ss], RULES.scale), v[4:], 5)
-            c = min(max((32760 - add) // 16, 0), 4095) if g.random() < .8 else g.choice((0, 4095, g.randrange(4096)))
-            self.add('F', c, *ss, *[A + 524288 for A in v[4:]])
+            add = r.fusion(r.shares([r.guard(s) for s in ss], RULES.scale), v[4:], sum(r.WEIGHTS[choice]))
+            c = min(max((r.TOP // 2 - add) // 16, 0), 4095) if g.random() < .8 else g.choice((0, 4095, g.randrange(4096)))
+            self.fusion(choice, c, ss, v[4:])
+
+
+def room():
+    """How many bytes the program reads: what stands behind them in stdin it would not see."""
+    with open(os.path.join(ROOT, 'crates', 'cases', 'src', 'main.rt')) as code:
+        return int(re.search(r'let mut bytes = \[0u8; (\d+)\];', code.read())[1])
 
 
 def main():
@@ -378,6 +416,8 @@ def main():
     m.row_views(200)
     m.partner_views(240)
     m.fusions(600)
+    m.pieces(120)
+    assert len('\n'.join(m.lines)) < room(), 'stdin is longer than the program reads'
     os.makedirs(where, exist_ok=True)
     for name, lines in (('stdin', m.lines), ('stdout', m.answers)):
         with open(os.path.join(where, name), 'w') as out:

@@ -2,6 +2,9 @@ ghost use mathlib.Core.Path.{_≡_};
 ghost use Prim.Native.Nat.{_≤_, _<_};
 ghost use lib.ListN.{length};
 
+// The numbers of a line, by their place in it; those that the line has not are 0.
+pub type Fields = [usize; 64];
+
 // Where the line that starts at `at` ends: the place of its line end, or the end of all.
 pub fn line_end(bytes: &[u8], at: usize) -> usize
     requires { ⌜ at ≤ length (now bytes) ⌝ }
@@ -30,12 +33,12 @@ fn extended(x: usize, b: u8) -> usize {
 
 // The field that a byte belongs to, after field k.
 fn field(k: usize, b: u8) -> usize
-    ensures { λ r. ⌜ r < 32 ⌝ }
+    ensures { λ r. ⌜ r < 64 ⌝ }
 {
     if b == b' ' {
-        return k % 31 + 1;
+        return k % 63 + 1;
     }
-    k % 32
+    k % 64
 }
 
 fn wide(b: u8) -> usize
@@ -45,7 +48,7 @@ fn wide(b: u8) -> usize
 }
 
 // The numbers of a line. A space starts one, and field 0 is the letter's.
-pub fn read(line: &[u8], f: &mut [usize; 32]) {
+pub fn read(line: &[u8], f: &mut Fields) {
     let mut i = 0;
     let mut k = 0;
     while i < line.len() {

@@ -1,17 +1,18 @@
 ghost use Prim.Native.Nat.{_≤_};
 ghost use lib.IntN.{natAbs};
 ghost use Rattle.gbtf.specs.Fusion.{Fitting};
+use crate::fields::Fields;
 use crate::print;
 use gbtf::direction::Direction;
 use gbtf::fusion::green;
 use green_rows::weights::SCALE;
 use green_rows::weights::TOTAL;
 
-// A five-sum, which the case gives with 524288 added.
+// A five-sum, which the case gives with 2097152 added.
 fn five_sum(a: usize) -> i64
     ensures { λ r. ⌜ natAbs r ≤ 2097152 ⌝ }
 {
-    (a % 1572864) as i64 - 524288
+    (a % 4194304) as i64 - 2097152
 }
 
 fn direction(s: usize, a: usize) -> Direction
@@ -28,12 +29,12 @@ fn reading(c: usize) -> u16 {
 }
 
 // Green by fusion of four directions.
-pub fn run(f: &[usize; 32]) {
-    let east = direction(f[2], f[6]);
-    let west = direction(f[3], f[7]);
-    let north = direction(f[4], f[8]);
-    let south = direction(f[5], f[9]);
-    let g = green(SCALE, TOTAL, reading(f[1]), east, west, north, south);
+pub fn run(f: &Fields) {
+    let east = direction(f[3], f[7]);
+    let west = direction(f[4], f[8]);
+    let north = direction(f[5], f[9]);
+    let south = direction(f[6], f[10]);
+    let g = green(SCALE, TOTAL, reading(f[2]), east, west, north, south);
     io::print_decimal(1, print::sample(g));
     io::write_all(1, b"\n");
 }

@@ -2,16 +2,18 @@
 // writes them with the answers of the other implementation, to which this program's answers are held.
 ghost use Prim.Native.Nat.{_<_};
 ghost use lib.ListN.{length};
+use crate::fields::Fields;
 
 mod fields;
 mod fusion_case;
+mod piece_case;
 mod print;
 mod recipe;
 mod strip_case;
 mod view_case;
 
 // One line: a case, by its letter, or a comment.
-fn answer(letter: u8, f: &[usize; 32]) {
+fn answer(letter: u8, f: &Fields) {
     if letter == b'S' {
         strip_case::run(f);
     }
@@ -20,6 +22,9 @@ fn answer(letter: u8, f: &[usize; 32]) {
     }
     if letter == b'Q' {
         view_case::run_partner(f);
+    }
+    if letter == b'R' {
+        piece_case::run(f);
     }
     if letter == b'F' {
         fusion_case::run(f);
@@ -32,7 +37,7 @@ fn line(bytes: &[u8], at: usize) -> usize
     ensures { λ r. ⌜ at < r ⌝ }
 {
     let end = fields::line_end(bytes, at);
-    let mut f = [0; 32];
+    let mut f = [0; 64];
     fields::read(&bytes[at..end], &mut f);
     answer(bytes[at], &f);
     end + 1

@@ -1,5 +1,6 @@
 // The contents of lent samples, by the recipe that tools/make_cases.py gives.
 ghost use Prim.Native.Nat.{_<_};
+use crate::fields::Fields;
 
 // The generator: the next state.
 fn step(x: usize) -> usize
@@ -24,14 +25,14 @@ fn times(a: usize, b: usize) -> usize
     low(a) * low(b)
 }
 
-fn noise(f: &[usize; 32], x: usize) -> usize
+fn noise(f: &Fields, x: usize) -> usize
     ensures { λ r. ⌜ r < 4294967296 ⌝ }
 {
-    let amount = f[21];
-    if low(f[20]) == 0 {
+    let amount = f[24];
+    if low(f[23]) == 0 {
         return times(x / 1048576, amount) / 4096;
     }
-    if low(f[20]) == 1 {
+    if low(f[23]) == 1 {
         return times(x / 2147483648, amount);
     }
     if x < 268435456 {
@@ -41,13 +42,13 @@ fn noise(f: &[usize; 32], x: usize) -> usize
 }
 
 // The step of an edge, from the diagonal on.
-fn edge(f: &[usize; 32], diagonal: usize) -> usize
+fn edge(f: &Fields, diagonal: usize) -> usize
     ensures { λ r. ⌜ r < 65536 ⌝ }
 {
-    if diagonal < low(f[18]) {
+    if diagonal < low(f[21]) {
         return 0;
     }
-    low(f[19])
+    low(f[22])
 }
 
 // A reading of this shape.
@@ -64,12 +65,12 @@ fn shaped(shape: usize, v: usize) -> usize
 }
 
 // The reading at row i and column j.
-fn reading(f: &[usize; 32], x: usize, i: usize, j: usize) -> u16 {
+fn reading(f: &Fields, x: usize, i: usize, j: usize) -> u16 {
     let diagonal = low(i) + low(j);
-    let ramp = low(f[12]) + times(f[13], i) + times(f[14], j);
-    let tiles = times(f[15], i % 2) + times(f[16], j % 2) + times(f[17], diagonal % 2);
+    let ramp = low(f[15]) + times(f[16], i) + times(f[17], j);
+    let tiles = times(f[18], i % 2) + times(f[19], j % 2) + times(f[20], diagonal % 2);
     let v = ramp + tiles + edge(f, diagonal) + noise(f, x);
-    narrow(shaped(low(f[22]), v))
+    narrow(shaped(low(f[25]), v))
 }
 
 fn at_least_one(x: usize) -> usize
@@ -78,10 +79,10 @@ fn at_least_one(x: usize) -> usize
     if x == 0 { 1 } else { x }
 }
 
-fn fill(f: &[usize; 32], piece: &mut [u16]) {
-    let width = at_least_one(f[10]);
-    let first = low(f[27]);
-    let mut x = f[11];
+fn fill(f: &Fields, piece: &mut [u16]) {
+    let width = at_least_one(f[13]);
+    let first = low(f[30]);
+    let mut x = f[14];
     let mut t = 0;
     while t < piece.len() {
         x = step(x);
@@ -99,10 +100,10 @@ fn put(piece: &mut [u16], at: usize, value: usize) {
 }
 
 // A piece of the mosaic.
-pub fn piece(f: &[usize; 32], piece: &mut [u16]) {
+pub fn piece(f: &Fields, piece: &mut [u16]) {
     fill(f, piece);
-    put(piece, f[23], f[24]);
-    put(piece, f[25], f[26]);
+    put(piece, f[26], f[27]);
+    put(piece, f[28], f[29]);
 }
 
 // What a plane holds before a call.

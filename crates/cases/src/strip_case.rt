@@ -1,14 +1,10 @@
+use crate::fields::Fields;
 use crate::fields::layout;
 use crate::fields::least;
 use crate::print;
 use crate::recipe;
-use bayer::frame::Frame;
-use strip::check::strip_check;
-use strip::strip::strip;
-
-fn frame(f: &[usize; 32]) -> Frame {
-    Frame::new(f[1], f[2], layout(f[3]))
-}
+use capi::rokzimp_strip;
+use capi::rokzimp_strip_check;
 
 // The answer: the two numbers, and the planes.
 fn show(got: u32, first: u32, red: &[u16], green: &[u16], blue: &[u16]) {
@@ -20,24 +16,36 @@ fn show(got: u32, first: u32, red: &[u16], green: &[u16], blue: &[u16]) {
     io::write_all(1, b"\n");
 }
 
-// The number that the check gives, then the call.
-fn call(f: &[usize; 32], piece: &[u16], red: &mut [u16], green: &mut [u16], blue: &mut [u16]) {
-    let first = strip_check(
-        frame(f),
-        f[4],
-        f[5],
+// The number that the check gives, then the call, as C calls them: the arguments by their places in include/rokzimp.h.
+fn call(f: &Fields, piece: &[u16], red: &mut [u16], green: &mut [u16], blue: &mut [u16]) {
+    let first = rokzimp_strip_check(
+        f[1],
+        f[2],
+        layout(f[3]),
+        f[7],
+        f[8],
         piece,
         red.len(),
         green.len(),
         blue.len(),
     );
-    let got = strip(frame(f), f[4], f[5], piece, red, green, blue);
+    let got = rokzimp_strip(
+        f[1],
+        f[2],
+        layout(f[3]),
+        f[7],
+        f[8],
+        piece,
+        red,
+        green,
+        blue,
+    );
     show(got, first, red, green, blue);
 }
 
 // Lent samples as the case asks for.
-fn lend(f: &[usize; 32], piece: &mut [u16], red: &mut [u16], green: &mut [u16], blue: &mut [u16]) {
-    let seed = f[11] % 4294967296;
+fn lend(f: &Fields, piece: &mut [u16], red: &mut [u16], green: &mut [u16], blue: &mut [u16]) {
+    let seed = f[14] % 4294967296;
     recipe::piece(f, piece);
     recipe::plane(seed + 1, red);
     recipe::plane(seed + 2, green);
@@ -46,11 +54,11 @@ fn lend(f: &[usize; 32], piece: &mut [u16], red: &mut [u16], green: &mut [u16], 
 }
 
 // As much of the room as the case asks for.
-fn cut(f: &[usize; 32], piece: &mut [u16], red: &mut [u16], green: &mut [u16], blue: &mut [u16]) {
-    let p = least(f[6], piece.len());
-    let r = least(f[7], red.len());
-    let g = least(f[8], green.len());
-    let b = least(f[9], blue.len());
+fn cut(f: &Fields, piece: &mut [u16], red: &mut [u16], green: &mut [u16], blue: &mut [u16]) {
+    let p = least(f[9], piece.len());
+    let r = least(f[10], red.len());
+    let g = least(f[11], green.len());
+    let b = least(f[12], blue.len());
     lend(
         f,
         &mut piece[0..p],
@@ -61,7 +69,7 @@ fn cut(f: &[usize; 32], piece: &mut [u16], red: &mut [u16], green: &mut [u16], b
 }
 
 // A strip call.
-pub fn run(f: &[usize; 32]) {
+pub fn run(f: &Fields) {
     let mut piece = [0u16; 90112];
     let mut red = [0u16; 32776];
     let mut green = [0u16; 32776];

@@ -1,80 +1,89 @@
-ghost use Prim.Native.Nat.{_<_};
+// Views. The number, the plane, the start and the length are what C is told, the arguments by their places in
+// include/rokzimp.h; the checksum is of what the view of crate bayer shows.
+use crate::fields::Fields;
 use crate::fields::layout;
 use crate::fields::least;
 use crate::print;
 use crate::recipe;
 use bayer::frame::Frame;
 use bayer::view::partner_view;
-use bayer::view::partner_view_check;
 use bayer::view::row_view;
-use bayer::view::row_view_check;
+use capi::rokzimp_partner_view_check;
+use capi::rokzimp_partner_view_length;
+use capi::rokzimp_partner_view_plane;
+use capi::rokzimp_partner_view_start;
+use capi::rokzimp_row_view_check;
+use capi::rokzimp_row_view_length;
+use capi::rokzimp_row_view_start;
 
-// Length and checksum of what is shown.
-fn shown(part: &[u16]) {
-    print::number(print::size(part.len()));
+// The end of an answer: start, length and checksum of what is shown.
+fn shown(start: usize, length: usize, part: &[u16]) {
+    print::number(print::size(start));
+    print::number(print::size(length));
     print::number(print::checksum(part));
     io::write_all(1, b"\n");
 }
 
-// The first sample, or 0.
-fn first(part: &[u16]) -> u64
-    ensures { λ r. ⌜ r < 65536 ⌝ }
-{
-    if part.len() == 0 {
-        return 0;
-    }
-    print::sample(part[0])
+fn row(f: &Fields, plane: &[u16]) {
+    let number = rokzimp_row_view_check(plane, f[1], f[2]);
+    let start = rokzimp_row_view_start(plane, f[1], f[2]);
+    let length = rokzimp_row_view_length(plane, f[1], f[2]);
+    io::print_decimal(1, print::refusal(number));
+    shown(start, length, row_view(plane, f[1], f[2]));
 }
 
-fn row(f: &[usize; 32], plane: &[u16]) {
-    io::print_decimal(1, print::refusal(row_view_check(plane, f[1], f[2])));
-    let part = row_view(plane, f[1], f[2]);
-    print::number(first(part));
-    shown(part);
-}
-
-fn lend_row(f: &[usize; 32], plane: &mut [u16]) {
+fn lend_row(f: &Fields, plane: &mut [u16]) {
     recipe::count(0, plane);
     row(f, plane);
 }
 
-fn cut_row(f: &[usize; 32], plane: &mut [u16]) {
+fn cut_row(f: &Fields, plane: &mut [u16]) {
     let n = least(f[3], plane.len());
     lend_row(f, &mut plane[0..n]);
 }
 
 // A row view.
-pub fn run_row(f: &[usize; 32]) {
+pub fn run_row(f: &Fields) {
     let mut plane = [0u16; 32776];
     cut_row(f, &mut plane);
 }
 
-fn partner<'a>(f: &[usize; 32], red: &'a [u16], blue: &'a [u16]) {
-    let frame = Frame::new(f[1], f[2], layout(f[3]));
-    io::print_decimal(
-        1,
-        print::refusal(partner_view_check(red, blue, frame, f[4])),
-    );
-    let part = partner_view(red, blue, frame, f[4]);
-    print::number(first(part) / 32768 * 2);
-    print::number(first(part) % 32768);
-    shown(part);
+// The plane that a partner view shows, or 0 where the view is refused.
+fn plane_shown(number: u32, layout: u8, row: usize) -> u32 {
+    if number != 0 {
+        return 0;
+    }
+    rokzimp_partner_view_plane(layout, row)
 }
 
-fn lend_partner(f: &[usize; 32], red: &mut [u16], blue: &mut [u16]) {
+fn partner<'a>(f: &Fields, red: &'a [u16], blue: &'a [u16]) {
+    let l = layout(f[3]);
+    let number = rokzimp_partner_view_check(red, blue, f[1], f[2], l, f[4]);
+    let start = rokzimp_partner_view_start(red, blue, f[1], f[2], l, f[4]);
+    let length = rokzimp_partner_view_length(red, blue, f[1], f[2], l, f[4]);
+    io::print_decimal(1, print::refusal(number));
+    print::number(print::refusal(plane_shown(number, l, f[4])));
+    shown(
+        start,
+        length,
+        partner_view(red, blue, Frame::new(f[1], f[2], l), f[4]),
+    );
+}
+
+fn lend_partner(f: &Fields, red: &mut [u16], blue: &mut [u16]) {
     recipe::count(0, red);
     recipe::count(32768, blue);
     partner(f, red, blue);
 }
 
-fn cut_partner(f: &[usize; 32], red: &mut [u16], blue: &mut [u16]) {
+fn cut_partner(f: &Fields, red: &mut [u16], blue: &mut [u16]) {
     let r = least(f[5], red.len());
     let b = least(f[6], blue.len());
     lend_partner(f, &mut red[0..r], &mut blue[0..b]);
 }
 
 // A partner view.
-pub fn run_partner(f: &[usize; 32]) {
+pub fn run_partner(f: &Fields) {
     let mut red = [0u16; 32768];
     let mut blue = [0u16; 32768];
     cut_partner(f, &mut red, &mut blue);

@@ -6,7 +6,7 @@ use Rattle.cases.proofs.fields.read.Statement.{statement}
 use Rattle.cases.proofs.fields.read.Tie as tie
 
 abbrev Inv-loop : tie.InvT-loop
-Inv-loop line f₀ i₀ k₀ f i k = (i ≤ length line) × (k < 32)
+Inv-loop line f₀ i₀ k₀ f i k = (i ≤ length line) × (k < 64)
 
 abbrev μ-loop : tie.MeasureT-loop
 μ-loop line f₀ i₀ k₀ f i k = length line - i

@@ -1,0 +1,21 @@
+#!/usr/bin/env python3
+"""The stage of the rules: document 01 with those requests of document 02 that have landed. A landing changes STAGE, and nothing else
+here; case makers, tests, stress test and benchmark all take it from this file.
+
+    python3 tools/stage.py        prints its number, for gcc -DSTAGE=number reference/demosaic.c
+
+To import this puts reference/ on the path too."""
+import os
+import sys
+
+STAGE = 'base'
+
+ROOT = os.path.dirname(os.path.dirname(os.path.abspath(__file__)))
+sys.dont_write_bytecode = True
+sys.path.insert(0, os.path.join(ROOT, 'reference'))
+import reference  # noqa: E402
+
+RULES = reference.Rules(STAGE)
+
+if __name__ == '__main__':
+    print(RULES.k)
