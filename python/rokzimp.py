@@ -11,10 +11,12 @@ library, or below 0, is refused as the largest number would be. Calls let other 
 threads may do at the same time.
 """
 import array
+import concurrent.futures
 import ctypes
 import operator
 import os
 import sys
+import threading
 
 WORDS = {
     1: ("off size", "width or height outside 8 to 4096"),
@@ -171,25 +173,55 @@ def strip(width, height, layout, first_row, rows, piece, red, green, blue):
                                       r.address, r.count, g.address, g.count, b.address, b.count))
 
 
-def whole_frame(width, height, layout, mosaic, red=None, green=None, blue=None, strip_height=64):
+_STACK = 2 ** 22  # bytes for a thread that fills strips: a strip takes less than 2 ** 20, and some systems give a thread less by default
+_starting = threading.Lock()
+
+
+def _in_threads(work, items, threads):
+    """Does the work for each item, in up to that many threads, and returns when all have ended. What one of them raised is raised."""
+    with concurrent.futures.ThreadPoolExecutor(threads) as pool:
+        with _starting:  # the stack of new threads is one setting for the whole program
+            before = threading.stack_size()
+            threading.stack_size(max(before, _STACK))
+            try:
+                begun = [pool.submit(work, item) for item in items]
+            finally:
+                threading.stack_size(before)
+    for each in begun:
+        each.result()
+
+
+def whole_frame(width, height, layout, mosaic, red=None, green=None, blue=None, strip_height=64, threads=1):
     """Fills three planes of height * width samples from the whole mosaic, in strips of strip_height rows (the last may be lower).
     Planes that are not lent are made, as array('H'). Returns the three. Everything is tested before the first strip is filled: a
-    refusal is that of one strip of all rows."""
-    width, height, layout, strip_height = _size(width), _size(height), _layout(layout), operator.index(strip_height)
+    refusal is that of one strip of all rows. With more than one thread the strips are filled side by side, and the planes are the
+    same; with one, in the thread that calls."""
+    width, height, layout = _size(width), _size(height), _layout(layout)
+    strip_height, threads = operator.index(strip_height), operator.index(threads)
     if strip_height < 1:
         raise ValueError("strip_height is below 1")
+    if threads < 1:
+        raise ValueError("threads is below 1")
     with _Lent(mosaic) as m:
         made = width * height if width <= 4096 and height <= 4096 else 0
         planes = [array.array("H", bytes(2 * made)) if plane is None else plane for plane in (red, green, blue)]
         with _Lent(planes[0], True) as r, _Lent(planes[1], True) as g, _Lent(planes[2], True) as b:
             _apart([r, g, b], [m])
             _raise(_library.rokzimp_strip_check(width, height, layout, 0, height, m.address, m.count, r.count, g.count, b.count))
-            for first in range(0, height, strip_height):
+
+            def fill(first):
                 rows = min(strip_height, height - first)
                 start, at = piece_start(first), 2 * first * width
                 _raise(_library.rokzimp_strip(width, height, layout, first, rows, m.address + 2 * start * width,
                                               piece_rows(height, first, rows) * width, r.address + at, rows * width,
                                               g.address + at, rows * width, b.address + at, rows * width))
+
+            firsts = range(0, height, strip_height)
+            if threads == 1:
+                for first in firsts:
+                    fill(first)
+            else:
+                _in_threads(fill, firsts, threads)
     return tuple(planes)
 
 

@@ -5,12 +5,10 @@ import os
 import random
 import sys
 
-HERE = os.path.dirname(os.path.abspath(__file__))
-sys.dont_write_bytecode = True
-sys.path.insert(0, os.path.join(HERE, '..', 'reference'))
+from stage import ROOT, RULES
 import reference
 
-WHERE = sys.argv[2] if len(sys.argv) > 2 else os.path.join(HERE, '..', 'crates', 'planes_cases')
+WHERE = sys.argv[2] if len(sys.argv) > 2 else os.path.join(ROOT, 'crates', 'planes_cases')
 
 
 def frame_file(w, h, layout, readings, version=1, length=None):
@@ -25,6 +23,7 @@ def cases():
     def some(n, top=4095):
         return [rnd.randint(0, top) for _ in range(n)]
 
+    off = RULES.min_size - 1
     flat = frame_file(8, 8, 0, [100] * 64)
     # 01's example; accepted frames of each layout, odd and even sizes, extreme readings, and the largest files
     yield flat
@@ -49,14 +48,14 @@ def cases():
     yield frame_file(8, 8, 0, [100] * 64, length=2 ** 31 + 133)
     yield flat[:1] + (133).to_bytes(4, 'little') + flat[5:]
     yield frame_file(8, 9, 0, [100] * 64)
-    yield frame_file(7, 8, 4, [5000] * 55)
+    yield frame_file(off, 8, 4, [5000] * (8 * off - 1))
     yield frame_file(32768, 65535, 0, [])
     yield frame_file(65535, 65535, 0, [])
     # 5 + 2 W H is the length of the rest, but for 2^32
     yield frame_file(46317, 46365, 0, [100] * 4057)
     # 1, also before 2 and 6
-    yield frame_file(7, 8, 0, some(56))
-    yield frame_file(8, 7, 4, [5000] * 56)
+    yield frame_file(off, 8, 0, some(8 * off))
+    yield frame_file(8, off, 4, [5000] * (8 * off))
     yield frame_file(0, 8, 0, [])
     yield frame_file(8, 0, 0, [])
     yield frame_file(0, 4097, 9, [])
@@ -70,9 +69,8 @@ def cases():
     yield frame_file(8, 8, 0, [100] * 63 + [4095])
 
 
-rules = reference.Rules('base')
 os.makedirs(WHERE, exist_ok=True)
 with open(os.path.join(WHERE, 'stdin'), 'wb') as out, open(os.path.join(WHERE, 'stdout'), 'w') as printed:
     for data in cases():
         out.write(len(data).to_bytes(2, 'big') + data)
-        printed.write(reference.program(rules, data))
+        printed.write(reference.program(RULES, data))

@@ -1,6 +1,7 @@
 #!/usr/bin/env python3
 """Tests of python/rokzimp.py and tools/frame_to_png.py, and with them of the C library: document 01's examples, each refusal, that
-nothing is copied, that any cutting into strips gives the same planes, and frames compared with reference/reference.py.
+nothing is copied, that any cutting into strips and any number of threads give the same planes, and frames compared with
+reference/reference.py.
 
     tools/build_library.sh && tools/test_python.py"""
 import array
@@ -14,16 +15,14 @@ import tempfile
 import threading
 import tracemalloc
 import unittest
+import unittest.mock
 import zlib
 
-ROOT = os.path.join(os.path.dirname(os.path.abspath(__file__)), "..")
-sys.path[:0] = [os.path.join(ROOT, "python"), os.path.join(ROOT, "reference")]
+from stage import ROOT, RULES
+sys.path.insert(0, os.path.join(ROOT, "python"))
 import reference
 import rokzimp
 from rokzimp import Refused, partner_view, piece_rows, piece_start, row_view, strip, whole_frame
-
-STAGE = "base"
-RULES = reference.Rules(STAGE)
 
 
 def samples(numbers):
@@ -118,6 +117,16 @@ class Test(unittest.TestCase):
         self.assertEqual(lent, planes(800))
         self.refused(4, whole_frame, 8, 100, 0, mosaic[:799], *lent, 1)
         self.refused(5, whole_frame, 8, 100, 0, samples([1] * 800), lent[0], lent[1], samples([]))
+        for threads in (2, 200):
+            self.refused(6, whole_frame, 8, 100, 0, mosaic, *lent, 1, threads)
+            self.refused(4, whole_frame, 8, 100, 0, mosaic[:799], *lent, 1, threads)
+            self.refused(1, whole_frame, 7, 100, 0, mosaic, *lent, 1, threads)
+        mosaic[799] = 100
+        for wrong in (dict(threads=0), dict(threads=-1), dict(strip_height=0), dict(strip_height=0, threads=2)):
+            with self.assertRaises(ValueError) as caught:
+                whole_frame(8, 100, 0, mosaic, *lent, **wrong)
+            self.assertNotIsInstance(caught.exception, Refused)
+        self.assertEqual(lent, planes(800))
 
     def test_views_refused(self):
         plane, other = samples(range(80)), samples(range(80, 152))
@@ -212,6 +221,34 @@ class Test(unittest.TestCase):
             wanted = whole_frame(width, height, layout, mosaic, strip_height=height)
             for rows in range(1, height + 3):
                 self.assertEqual(whole_frame(width, height, layout, mosaic, strip_height=rows), wanted)
+
+    def test_any_number_of_threads(self):
+        rng = random.Random(6)
+        before = threading.stack_size()
+        for width, height in ((8, 8), (13, 31), (70, 200)):
+            mosaic, layout = random_mosaic(rng, width * height), rng.randrange(4)
+            wanted = whole_frame(width, height, layout, mosaic, strip_height=height)
+            for rows in (1, 3, 64, height):
+                for threads in (2, 3, 8, 300):
+                    lent = planes(width * height)
+                    self.assertEqual(whole_frame(width, height, layout, mosaic, *lent, rows, threads), wanted)
+                    self.assertEqual(tuple(lent), wanted)
+        self.assertEqual(threading.stack_size(), before)
+
+    def test_threads_where_stacks_are_small(self):
+        """A thread would start with half the stack that a strip takes."""
+        script = ("import sys; sys.path.insert(0, 'python'); import rokzimp; from array import array\n"
+                  "print({*rokzimp.whole_frame(64, 64, 0, array('H', [100] * 4096), strip_height=8, threads=2)[1]})")
+        ran = subprocess.run(["sh", "-c", 'ulimit -s 400 && exec "$0" -c "$1"', sys.executable, script], capture_output=True, cwd=ROOT)
+        self.assertEqual((ran.returncode, ran.stdout), (0, b"{1600}\n"), ran.stderr)
+
+    def test_raised_in_a_thread(self):
+        def refuses_row_16(width, height, layout, first, *others):
+            return 6 if first == 16 else 0
+
+        with unittest.mock.patch.object(rokzimp._library, "rokzimp_strip", refuses_row_16):
+            for threads in (1, 2, 9):
+                self.refused(6, whole_frame, 8, 64, 0, samples([1] * 512), *planes(512), 8, threads)
 
     def test_strips_in_threads(self):
         width, height, mosaic = 64, 96, random_mosaic(random.Random(3), 64 * 96)
