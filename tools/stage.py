@@ -2,7 +2,7 @@
 """The stage of the rules: document 01 with those requests of document 02 that have landed. A landing changes STAGE, and nothing else
 here; case makers, tests, stress test and benchmark all take it from this file.
 
-    python3 tools/stage.py        prints its number, for gcc -DSTAGE=number reference/demosaic.c
+    python3 tools/stage.py        prints words for gcc: the stage's number, which reference/demosaic.c takes, and the smallest width and height
 
 To import this puts reference/ on the path too."""
 import os
@@ -18,4 +18,4 @@ import reference  # noqa: E402
 RULES = reference.Rules(STAGE)
 
 if __name__ == '__main__':
-    print(RULES.k)
+    print('-DSTAGE=%d -DLEAST=%d' % (RULES.k, RULES.min_size))

@@ -1,10 +1,10 @@
-/* Megapixels per second of one thread on a 4096 by 4096 frame: the proved library beside reference/demosaic.c,
- * in strips of 1, 16, 64 and 4096 rows of random readings, and whole for other readings; and the memory that each uses beside the
- * mosaic and the planes.
+/* Megapixels per second of one thread on a 4096 by 4096 frame: the proved library beside strip_general of reference/demosaic.c in its
+ * two builds, in whole numbers and with quotients guessed in floating point and put right (-DFPDIV); in strips of 1, 16, 64 and 4096
+ * rows of random readings, and whole for other readings; and the memory that each uses beside the mosaic and the planes.
  *
  *   bench [seconds]    time spent at the least on each figure (default 2)
  *
- * Times are processor time of this thread, so a shared machine disturbs them less. The two are timed in turn, and the best
+ * Times are processor time of this thread, so a shared machine disturbs them less. The three are timed in turn, and the best
  * turn of each counts. Their planes are compared after each figure. */
 #define _GNU_SOURCE
 #include <pthread.h>
@@ -15,12 +15,13 @@
 #include <sys/mman.h>
 #include <sys/resource.h>
 #include <time.h>
+#include "../strip_general.h"
 #include "rokzimp.h"
 
-int demosaic_strip(uint64_t W, uint64_t H, uint64_t layout, uint64_t a, uint64_t n, const uint16_t *piece, uint64_t len,
-                   uint16_t *R, uint64_t rlen, uint16_t *G, uint64_t glen, uint16_t *B, uint64_t blen);
+StripGeneral strip_general_whole, strip_general_fp;
 
-/* the reference is compiled to take its memory here, so that it can be counted */
+/* demosaic.c is compiled to take its memory here, so that it can be counted. That the library calls no allocator is tested by the
+ * script `run`. */
 static size_t heap, heap_most;
 void *counted_calloc(size_t n, size_t size) {
     size_t *p = calloc(1, n * size + 64);
@@ -37,7 +38,9 @@ void counted_free(void *q) {
 }
 
 enum { SIZE = 4096 };
-static uint16_t *mosaic, *ours[3], *theirs[3];
+enum { LIBRARY, WHOLE, FP, EACH };
+static const char *const names[EACH] = {"library", "demosaic.c", "-DFPDIV"};
+static uint16_t *mosaic, *planes[EACH][3];
 
 static double now(void) {
     struct timespec t;
@@ -56,24 +59,27 @@ static void fill(int kind) {
 }
 
 /* the whole frame in strips of so many rows */
-static void frame(int library, size_t rows, uint16_t **p) {
+static void frame(int who, size_t rows) {
+    uint16_t **p = planes[who];
+    StripGeneral *general = who == WHOLE ? strip_general_whole : strip_general_fp;
     for (size_t a = 0; a < SIZE; a += rows) {
         size_t n = a + rows <= SIZE ? rows : SIZE - a, len = n * SIZE, at = a * SIZE;
         const uint16_t *piece = mosaic + rokzimp_piece_start(a) * SIZE;
         size_t piece_len = rokzimp_piece_rows(SIZE, a, n) * SIZE;
-        uint32_t r = library ? rokzimp_strip(SIZE, SIZE, 0, a, n, piece, piece_len, p[0] + at, len, p[1] + at, len, p[2] + at, len)
-                             : (uint32_t)demosaic_strip(SIZE, SIZE, 0, a, n, piece, piece_len, p[0] + at, len, p[1] + at, len, p[2] + at, len);
+        uint32_t r = who == LIBRARY
+                         ? rokzimp_strip(SIZE, SIZE, 0, a, n, piece, piece_len, p[0] + at, len, p[1] + at, len, p[2] + at, len)
+                         : (uint32_t)general(SIZE, SIZE, 0, -1, -1, a, n, 0, -1, 0, piece, piece_len, p[0] + at, len, p[1] + at, len, p[2] + at, len);
         if (r) { printf("refused %u\n", r); exit(1); }
     }
 }
 
 /* the stack that one call takes: run on a stack of a known pattern, and see how deep it was overwritten */
-static void *one_call(void *unused) {
-    frame(1, SIZE, ours);
-    return unused;
+static void *one_call(void *who) {
+    frame(*(int *)who, SIZE);
+    return 0;
 }
 
-static size_t stack_used(void) {
+static size_t stack_used(int who) {
     size_t size = 4 << 20;
     unsigned char *s = mmap(0, size, PROT_READ | PROT_WRITE, MAP_PRIVATE | MAP_ANONYMOUS | MAP_STACK, -1, 0);
     if (s == MAP_FAILED) abort();
@@ -82,7 +88,7 @@ static size_t stack_used(void) {
     pthread_attr_init(&attr);
     pthread_attr_setstack(&attr, s, size);
     pthread_t t;
-    if (pthread_create(&t, &attr, one_call, 0)) abort();
+    if (pthread_create(&t, &attr, one_call, &who)) abort();
     pthread_join(t, 0);
     size_t k = 0;
     while (k < size && s[k] == 0xa5) k++;
@@ -94,33 +100,46 @@ int main(int argc, char **argv) {
     double seconds = argc > 1 ? atof(argv[1]) : 2;
     size_t samples = (size_t)SIZE * SIZE;
     mosaic = malloc(samples * 2);
-    for (int c = 0; c < 3; c++) { ours[c] = malloc(samples * 2); theirs[c] = malloc(samples * 2); memset(ours[c], 1, samples * 2); memset(theirs[c], 2, samples * 2); }
+    for (int who = 0; who < EACH; who++)
+        for (int c = 0; c < 3; c++) {
+            planes[who][c] = malloc(samples * 2);
+            memset(planes[who][c], who, samples * 2); /* not the same before */
+        }
     struct { int contents; size_t rows; } const figures[] = {{0, 1}, {0, 16}, {0, 64}, {0, 4096}, {1, 4096}, {2, 4096}};
     int bad = 0;
-    printf("4096 by 4096, one thread; megapixels per second\n");
-    printf("%-16s %8s %10s %12s %8s\n", "readings", "rows", "library", "demosaic.c", "ratio");
+    printf("4096 by 4096, one thread; megapixels per second; ratios of the library to each build of demosaic.c\n");
+    printf("%-10s %6s", "readings", "rows");
+    for (int who = 0; who < EACH; who++) printf(" %12s", names[who]);
+    printf("    ratios\n");
     for (int k = 0; k < 6; k++) {
         fill(figures[k].contents);
-        double best[2] = {1e9, 1e9}, spent = 0;
-        for (int turn = 0; turn < 2 || spent < 2 * seconds; turn++)
-            for (int who = 0; who < 2; who++) {
+        double best[EACH] = {1e9, 1e9, 1e9}, spent = 0;
+        for (int turn = 0; turn < 2 || spent < EACH * seconds; turn++)
+            for (int who = 0; who < EACH; who++) {
                 double t = now();
-                frame(who == 0, figures[k].rows, who == 0 ? ours : theirs);
+                frame(who, figures[k].rows);
                 t = now() - t;
                 spent += t;
                 if (t < best[who]) best[who] = t;
             }
         int differ = 0;
-        for (int c = 0; c < 3; c++) differ |= memcmp(ours[c], theirs[c], samples * 2) != 0;
+        for (int c = 0; c < 3; c++)
+            for (int who = WHOLE; who < EACH; who++) differ |= memcmp(planes[LIBRARY][c], planes[who][c], samples * 2) != 0;
         bad |= differ;
-        printf("%-16s %8zu %10.1f %12.1f %8.2f%s\n", contents[figures[k].contents], figures[k].rows, (double)samples / best[0] * 1e-6,
-               (double)samples / best[1] * 1e-6, best[1] / best[0], differ ? "  PLANES DIFFER" : "");
+        printf("%-10s %6zu", contents[figures[k].contents], figures[k].rows);
+        for (int who = 0; who < EACH; who++) printf(" %12.1f", (double)samples / best[who] * 1e-6);
+        printf(" %6.2f %6.2f%s\n", best[WHOLE] / best[LIBRARY], best[FP] / best[LIBRARY], differ ? "  PLANES DIFFER" : "");
         fflush(stdout);
     }
-    printf("memory beside the mosaic and the planes: library %zu bytes of stack (the thread's own few thousand included), no heap; "
-           "demosaic.c %zu bytes of heap\n", stack_used(), heap_most);
+    printf("memory beside the mosaic and the planes, the thread's own few thousand bytes of stack included:\n");
+    printf("  %-10s %8zu bytes of stack, no heap\n", names[LIBRARY], stack_used(LIBRARY));
+    for (int who = WHOLE; who < EACH; who++) {
+        heap_most = 0;
+        size_t stack = stack_used(who);
+        printf("  %-10s %8zu bytes of stack, %zu of heap\n", names[who], stack, heap_most);
+    }
     struct rusage u;
     getrusage(RUSAGE_SELF, &u);
-    printf("largest resident set of this program: %ld KiB, of which mosaic and planes %zu KiB\n", u.ru_maxrss, 7 * samples * 2 / 1024);
+    printf("largest resident set of this program: %ld KiB, of which mosaic and planes %zu KiB\n", u.ru_maxrss, (1 + 3 * EACH) * samples * 2 / 1024);
     return bad;
 }

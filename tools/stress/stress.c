@@ -1,4 +1,4 @@
-/* Random calls of the library, whole and damaged, compared with reference/demosaic.c.
+/* Random calls of the library, whole and damaged, compared with strip_general of reference/demosaic.c at the same stage.
  *
  *   stress [cases [seed]]    default 100000 cases, seed 1
  *
@@ -14,10 +14,10 @@
 #include <string.h>
 #include <sys/mman.h>
 #include <unistd.h>
+#include "../strip_general.h"
 #include "rokzimp.h"
 
-int demosaic_strip(uint64_t W, uint64_t H, uint64_t layout, uint64_t a, uint64_t n, const uint16_t *piece, uint64_t len,
-                   uint16_t *R, uint64_t rlen, uint16_t *G, uint64_t glen, uint16_t *B, uint64_t blen);
+StripGeneral strip_general;
 
 typedef unsigned __int128 wide;
 
@@ -74,10 +74,10 @@ static void same(const char *what, uint64_t got, uint64_t asked) {
 
 /* a size: mostly small, sometimes at or beyond the limits */
 static uint64_t size(void) {
-    static const uint64_t edge[] = {8, 9, 10, 11, 14, 15, 16, 17, 63, 64, 65, 4095, 4096};
+    static const uint64_t edge[] = {LEAST, LEAST + 1, 10, 11, 14, 15, 16, 17, 63, 64, 65, 4095, 4096};
     if (one_in(3)) return edge[below(sizeof edge / sizeof *edge)];
-    if (one_in(8)) return 8 + below(4089);
-    return 8 + below(60);
+    if (one_in(8)) return LEAST + below(4097 - LEAST);
+    return LEAST + below(60);
 }
 static uint64_t odd_number(void) { /* any number, with those near the limits and near wrapping more often */
     static const uint64_t edge[] = {0, 1, 6, 7, 8, 4096, 4097, 65535, 65536, 1u << 31, UINT32_MAX, (uint64_t)UINT32_MAX + 1,
@@ -162,8 +162,8 @@ static void strip_case(int twice) {
                 plane[c].fill[k] = expected[c][k] = (uint16_t)(g >> 40);
             }
         }
-        int asked = demosaic_strip(W, H, layout, a, n, piece.lent + from, len, expected[0] + at[0], lens[0], expected[1] + at[1], lens[1],
-                                   expected[2] + at[2], lens[2]);
+        int asked = strip_general(W, H, (int)layout, -1, -1, a, n, 0, -1, 0, piece.lent + from, len, expected[0] + at[0], lens[0],
+                                  expected[1] + at[1], lens[1], expected[2] + at[2], lens[2]);
         uint32_t got = rokzimp_strip(W, H, (uint8_t)layout, a, n, piece.lent + from, len, plane[0].lent + at[0], lens[0],
                                      plane[1].lent + at[1], lens[1], plane[2].lent + at[2], lens[2]);
         calls++;
@@ -183,7 +183,7 @@ static void strip_case(int twice) {
 }
 
 static int lacks(size_t len, uint64_t W, uint64_t row) { return (wide)len < ((wide)row + 1) * W; }
-static int off(uint64_t n) { return n < 8 || n > 4096; }
+static int off(uint64_t n) { return n < LEAST || n > 4096; }
 
 static void view_cases(int at_start) {
     uint64_t W = one_in(4) ? odd_number() : size(), H = one_in(6) ? odd_number() : size(), layout = one_in(8) ? below(256) : below(4);
