@@ -9,9 +9,9 @@ A line is a letter and then whole numbers, single spaces between them; a '#' lin
 S W H layout  entry choice method  a n  P R G B  width seed base down across oddrow oddcol checker from step kind amount shape at value at value first
   nb given advance {first count method smoothing}*given
     A strip call. P, R, G, B are the lengths of the piece and of the planes that are lent; from width to first it is the recipe of their contents.
-    entry, choice, method and the bands are room for requests of document 02. They say that nothing is named, entry 0, choice and method 255,
-    nb 255 and given and advance 0, and the program does not read them. Else entry 1 is the preview's, and nb is the number of bands in the table
-    that is lent: band t is number t % given of those given, 6 at the most, with advance (t / given) added to its first row.
+    entry, choice, method and the bands have their places for requests of document 02 that have not landed. A case names none of them, which is
+    0 255 255 and at the end 255 0 0, and the program does not read them. Entry 1 will be the preview's; and where a table is lent it has nb bands:
+    band t is number t % given of those given, 6 at the most, with advance (t / given) added to its first row.
     Answer: the number of rokzimp_strip, that of rokzimp_strip_check, and for each plane sum, checksum, first and last sample.
 V W row length
     A row view; sample t of the plane is t. Answer: number, start, length and checksum of what is shown.
@@ -21,7 +21,7 @@ Q W H layout row red blue
 R H a n
     The rows that a strip is lent of the mosaic. Answer: rokzimp_piece_start and rokzimp_piece_rows.
 F choice c s s s s A A A A
-    Green of reading c by fusion of east, west, north, south: direction sums, and five-sums plus 2097152; choice is 0, and room like that above.
+    Green of reading c by fusion of east, west, north, south: direction sums, and five-sums plus 2097152; choice is 0 and not read.
     Answer: green in units.
 
 A line has 63 numbers at the most, and stdin no more bytes than the program has room for.
