@@ -25,8 +25,8 @@ pub read-decides : (size : ℕ) (file : List ℕ) → 8202 < size → output (ta
 unfolding malformed
 read-decides size file room =
     elim (decLe (length file) size) [
-      yes h ↦ ap output (take-all size file h)
-    | no h ↦ torn-line (take size file) (long (take size file) (omega (arith, length-take size file))) ∙ sym (torn-line file (long file (omega arith)))
+      | yes h ↦ ap output (take-all size file h)
+      | no h ↦ torn-line (take size file) (long (take size file) (omega (arith, length-take size file))) ∙ sym (torn-line file (long file (omega arith)))
     ]
   where
     long : (bytes : List ℕ) → 8202 < length bytes → malformed bytes ≡ true

@@ -42,9 +42,10 @@ returns c =
     let l = c .before .before .before .before .before .lesser in
     let a = c .before .before .answer in
     let least : l .result ≡ min (s .args .n) (length (s .args .t1)) = omega (arith, l .ensures, good-length (eInt w8) _ (s .args .t1) _ (s .good .0)) in
-    let read : take (l .result) (s .args .t1) ≡ take (s .args .n) (s .args .t1) = rw least (take-least (s .args .n) (s .args .t1)) in
-    (λ file e. subst (λ text. Answered text (s .args .out .now) (a .last .1 .0) (a .result)) (ap output (read ∙ e) ∙ read-decides (length (s .args .t1)) file (room s)) (a .ensures),
-      elim (decLe 105 (length (s .args .out .now))) [ yes h ↦ a .ensures .printed h .1 | no h ↦ omega (arith, a .ensures .short (omega arith) .0) ])
+    let read : take (l .result) (s .args .t1) ≡ take (s .args .n) (s .args .t1) = rw least (take-least (s .args .n) (s .args .t1)) in (
+      λ file e. subst (λ text. Answered text (s .args .out .now) (a .last .1 .0) (a .result)) (ap output (read ∙ e) ∙ read-decides (length (s .args .t1)) file (room s)) (a .ensures),
+      elim (decLe 105 (length (s .args .out .now))) [ yes h ↦ a .ensures .printed h .1 | no h ↦ omega (arith, a .ensures .short (omega arith) .0) ],
+    )
 
 pub answer-read-spec : {M : Type 1} → statement M
 answer-read-spec =
