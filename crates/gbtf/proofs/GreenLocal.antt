@@ -12,7 +12,7 @@ use Rattle.whole.specs.Fraction.{natural}
 use Rattle.whole.proofs.Pairs.{+ℤ-up, -ℤ-up}
 use Rattle.bayer.specs.declared.colour.Colour.{Colour}
 use Rattle.gbtf.specs.Difference.{difference, gradient}
-use Rattle.gbtf.specs.Direction.{directionSum, fiveSum, total, direction}
+use Rattle.gbtf.specs.Direction.{directionSum, total, direction}
 use Rattle.gbtf.specs.Fusion.{green}
 use Rattle.gbtf.specs.Exact.{exactGreen}
 use Rattle.gbtf.specs.Mosaic.{Mosaic}

@@ -14,7 +14,7 @@ use Rattle.bayer.specs.declared.frame.Frame.{Frame}
 use Rattle.bayer.specs.Mirror.{mirror}
 use Rattle.bayer.specs.View.{rowOf}
 use Rattle.gbtf.specs.Difference.{difference, gradient}
-use Rattle.gbtf.specs.Direction.{directionSum, fiveSum, total, direction}
+use Rattle.gbtf.specs.Direction.{directionSum, total, direction}
 use Rattle.gbtf.specs.Fusion.{green}
 use Rattle.gbtf.specs.Mosaic.{Mosaic, continued}
 use Rattle.gbtf.proofs.PixelLaws.{five-sum-same}
