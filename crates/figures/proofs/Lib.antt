@@ -1,2 +1,5 @@
+pub mod PlaneTests
 pub mod FigureTable
 pub mod NotFifty
+pub mod PlaneTable
+pub mod ExactTable

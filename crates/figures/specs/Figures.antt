@@ -1,8 +1,9 @@
--- Document 01's bench figures marked M, as a table of claims about the written rules. proofs/FigureTable.antt has the theorem. Assumes nothing.
+-- Document 01's bench figures marked M, in its order, and the printed hundredths, as a table of claims about the written rules. proofs/FigureTable.antt has the theorem. Assumes nothing.
 use Prim.Native.Nat.{ℕ, zero, suc}
+use mathlib.Core.Path.{_≡_}
 use mathlib.Core.Bool.{Bool, true, false, _&&_}
 use mathlib.Core.List.{List, [], _∷_, _++_}
-use lib.Dec.{eqb}
+use lib.Dec.{T, eqb}
 use lib.IntN.{ℤ, pos, negsuc, _+ℤ_}
 use Rattle.bayer.specs.declared.colour.Colour.{Colour}
 use Rattle.bayer.specs.declared.colour.Colour.the-variants.{Red, Green, Blue}
@@ -10,24 +11,27 @@ use Rattle.bayer.specs.declared.frame.Frame.{Frame}
 use Rattle.bayer.specs.Mirror.{mirror}
 use Rattle.gbtf.specs.declared.direction.Direction.{Direction}
 use Rattle.gbtf.specs.Difference.{difference}
-use Rattle.gbtf.specs.Direction.{direction, guarded}
+use Rattle.gbtf.specs.Direction.{guarded, direction, t}
 use Rattle.gbtf.specs.Fusion.{smallest, share, shares, sharedDifferences, fusion}
+use Rattle.gbtf.specs.Weights.{scale}
 use Rattle.demosaic.specs.Fill.{fill}
-use Rattle.gbtf.specs.Weights.{scale, evenWeights}
-use Rattle.demosaic.specs.Sample.{sample}
+use Rattle.demosaic.specs.Exact.{printed}
+use Rattle.figures.specs.Rule.{planesAre}
 
 pub data Claim : Type 0 where
   -- the difference, for a centre that is green or not
   differenceIs : (green : Bool) (c l r p q : ℕ) → ℤ → Claim
   -- the shares of four directions, by their guarded sums
   sharesAre : (t₁ t₂ t₃ t₄ : ℕ) → (q₁ q₂ q₃ q₄ : ℕ) → Claim
-  -- of four directions of equal t: what their five-sums add to, and what fusion adds
-  fusionAdds : (t : ℕ) (east west north south : ℤ) (sum : ℤ) → ℤ → Claim
+  -- for any four directions of equal t whose five-sums A add to this: what fusion adds
+  fusionAdds : (sum : ℤ) → ℤ → Claim
   -- a fill from n neighbours, by what their e adds to
   fillIs : (n g : ℕ) (sum : ℤ) → ℕ → Claim
-  mirrorReads : (size : ℕ) (position : ℤ) → ℕ → Claim
   -- every sample of the three planes of the 8 by 8 frame, layout 0, whose red, green and blue readings are these
   planesOf : (red green blue : ℕ) → (R G B : ℕ) → Claim
+  mirrorReads : (size : ℕ) (position : ℤ) → ℕ → Claim
+  -- the hundredths of a unit that plane k may lie from the exact reconstruction
+  printedIs : (k : Colour) → ℕ → Claim
 
 abbrev pub equal : ℤ → ℤ → Bool
 equal (pos m) (pos n) = eqb m n
@@ -49,48 +53,27 @@ frame8 = record { width = 8; height = 8; layout = 0 }
 abbrev pub readings8 : (red green blue : ℕ) → List ℕ
 readings8 red green blue = times 4 (times 4 (red ∷ green ∷ []) ++ times 4 (green ∷ blue ∷ []))
 
--- for each number below n
-abbrev pub all : ℕ → (ℕ → Bool) → Bool
-all zero f = true
-all (suc n) f = f n && all n f
-
-abbrev pub plane8Is : List ℕ → Colour → ℕ → Bool
-plane8Is readings k v = all 8 (λ i. all 8 (λ j. eqb (sample scale evenWeights frame8 0 readings k i j) v))
-
-abbrev pub holds : Claim → Bool
-holds (differenceIs b c l r p q z) = equal (difference b c l r p q) z
+abbrev pub holds : Claim → Type 0
+holds (differenceIs b c l r p q z) = T (equal (difference b c l r p q) z)
 holds (sharesAre t₁ t₂ t₃ t₄ q₁ q₂ q₃ q₄) =
     let m = smallest (direction (pos 0) t₁) (direction (pos 0) t₂ ∷ direction (pos 0) t₃ ∷ direction (pos 0) t₄ ∷ []) in
-    eqb (share scale m (guarded t₁)) q₁ && (eqb (share scale m (guarded t₂)) q₂ && (eqb (share scale m (guarded t₃)) q₃ && eqb (share scale m (guarded t₄)) q₄))
-holds (fusionAdds t e w n s sum z) = equal (e +ℤ w +ℤ n +ℤ s) sum && equal (adds (direction e t) (direction w t ∷ direction n t ∷ direction s t ∷ [])) z
-holds (fillIs n g sum v) = eqb (fill n g sum) v
-holds (mirrorReads size z v) = eqb (mirror size z) v
-holds (planesOf red green blue R G B) = plane8Is (readings8 red green blue) Red R && (plane8Is (readings8 red green blue) Green G && plane8Is (readings8 red green blue) Blue B)
+    T (eqb (share scale m (guarded t₁)) q₁ && (eqb (share scale m (guarded t₂)) q₂ && (eqb (share scale m (guarded t₃)) q₃ && eqb (share scale m (guarded t₄)) q₄)))
+holds (fusionAdds sum z) =
+    (e w n s : Direction) → t e ≡ t w → t e ≡ t n → t e ≡ t s → e .differences +ℤ w .differences +ℤ n .differences +ℤ s .differences ≡ sum → adds e (w ∷ n ∷ s ∷ []) ≡ z
+holds (fillIs n g sum v) = T (eqb (fill n g sum) v)
+holds (planesOf red green blue R G B) = T (planesAre frame8 (readings8 red green blue) (λ i j. R) (λ i j. G) (λ i j. B))
+holds (mirrorReads size z v) = T (eqb (mirror size z) v)
+holds (printedIs k n) = T (eqb (printed k) n)
 
-abbrev pub every : List Claim → Bool
-every [] = true
-every (c ∷ l) = holds c && every l
-
--- of one pixel's numbers
-abbrev pub pixelFigures : List Claim
-pixelFigures =
+abbrev pub figures : List Claim
+figures =
     differenceIs false 100 10 20 90 98 (negsuc 327) ∷ differenceIs true 100 10 20 90 98 (pos 328)
     ∷ sharesAre 4 4 4 8 134217728 134217728 134217728 33554432
     ∷ sharesAre 12 4 12 12 14913080 134217728 14913080 14913080
-    ∷ fusionAdds 4 (pos 3) (pos 0) (pos 0) (pos 0) (pos 3) (pos 1)
-    ∷ fusionAdds 9 (pos 5) (negsuc 6) (pos 2) (pos 2) (pos 2) (pos 0)
-    ∷ fusionAdds 4 (negsuc 1) (pos 0) (pos 0) (pos 0) (negsuc 1) (pos 0)
-    ∷ fusionAdds 9 (negsuc 4) (pos 6) (negsuc 1) (negsuc 1) (negsuc 2) (negsuc 0)
+    ∷ fusionAdds (pos 3) (pos 1) ∷ fusionAdds (pos 2) (pos 0) ∷ fusionAdds (negsuc 1) (pos 0) ∷ fusionAdds (negsuc 2) (negsuc 0)
     ∷ fillIs 4 10 (pos 2) 10 ∷ fillIs 4 10 (negsuc 1) 11 ∷ fillIs 2 10 (pos 1) 10
-    ∷ mirrorReads 8 (negsuc 0) 1 ∷ mirrorReads 8 (negsuc 6) 7 ∷ mirrorReads 8 (pos 8) 6 ∷ mirrorReads 8 (pos 14) 0
-    ∷ []
-
--- of whole frames
-abbrev pub frameFigures : List Claim
-frameFigures =
-    planesOf 400 200 100 6400 3200 1600
+    ∷ planesOf 400 200 100 6400 3200 1600
     ∷ planesOf 4095 0 0 65520 0 0
+    ∷ mirrorReads 8 (negsuc 0) 1 ∷ mirrorReads 8 (negsuc 6) 7 ∷ mirrorReads 8 (pos 8) 6 ∷ mirrorReads 8 (pos 14) 0
+    ∷ printedIs Red 151 ∷ printedIs Green 51 ∷ printedIs Blue 151
     ∷ []
-
-abbrev pub figures : List Claim
-figures = pixelFigures ++ frameFigures

@@ -1,0 +1,31 @@
+-- Every value of the worked table of the exact reconstruction holds, by computation. Assumes nothing.
+use Rattle.bayer.specs.Colour.{colours, colourAt}
+use Rattle.bayer.specs.Mirror.{mirror}
+use Rattle.bayer.specs.View.{rowOf}
+use Rattle.gbtf.specs.Difference.{difference}
+use Rattle.gbtf.specs.Exact.{sumOver/t², exactGreen}
+use Rattle.gbtf.specs.GreenAt.{DH, DV, GH, GV, exactGreenAt}
+use Rattle.demosaic.specs.Sample.{neighbours}
+use Rattle.demosaic.specs.Exact.{mean, exactFill, exactOtherFrom, exactSample}
+use Rattle.figures.specs.Rule.{Every}
+use Rattle.figures.specs.Worked.{exactHolds}
+use Rattle.figures.specs.WorkedExact.{exact₀, exact₁, exact₂, exact₃, workedExact}
+
+exact₀-holds : exactHolds exact₀
+unfolding colours colourAt mirror rowOf difference DH DV GH GV sumOver/t² exactGreen exactGreenAt neighbours mean exactFill exactOtherFrom exactSample
+exact₀-holds = tt
+
+exact₁-holds : exactHolds exact₁
+unfolding colours colourAt mirror rowOf difference DH DV GH GV sumOver/t² exactGreen exactGreenAt neighbours mean exactFill exactOtherFrom exactSample
+exact₁-holds = tt
+
+exact₂-holds : exactHolds exact₂
+unfolding colours colourAt mirror rowOf difference DH DV GH GV sumOver/t² exactGreen exactGreenAt neighbours mean exactFill exactOtherFrom exactSample
+exact₂-holds = tt
+
+exact₃-holds : exactHolds exact₃
+unfolding colours colourAt mirror rowOf difference DH DV GH GV sumOver/t² exactGreen exactGreenAt neighbours mean exactFill exactOtherFrom exactSample
+exact₃-holds = tt
+
+pub worked-exact-hold : Every exactHolds workedExact
+worked-exact-hold = (exact₀-holds, (exact₁-holds, (exact₂-holds, (exact₃-holds, tt))))

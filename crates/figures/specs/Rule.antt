@@ -1,0 +1,36 @@
+-- What the tables of this crate share: the written rules under one name each, the test of a frame's planes, and what holds of a table. Assumes nothing.
+use Prim.Native.Nat.{ℕ, zero, suc}
+use mathlib.Core.Bool.{Bool, true, _&&_}
+use mathlib.Core.List.{List, [], _∷_}
+use lib.Dec.{eqb, lit≤}
+use Rattle.whole.specs.Fraction.{Fraction}
+use Rattle.bayer.specs.declared.colour.Colour.{Colour}
+use Rattle.bayer.specs.declared.colour.Colour.the-variants.{Red, Green, Blue}
+use Rattle.bayer.specs.declared.frame.Frame.{Frame}
+use Rattle.gbtf.specs.Weights.{scale, evenWeights}
+use Rattle.demosaic.specs.Sample.{sample}
+use Rattle.demosaic.specs.Exact.{exactSample}
+
+-- plane k of a frame at row i and column j, by the whole-number rules and in the exact reconstruction
+abbrev pub ruleSample : Frame → (readings : List ℕ) (k : Colour) (i j : ℕ) → ℕ
+ruleSample f readings k i j = sample scale evenWeights f 0 readings k i j
+
+abbrev pub ruleExact : Frame → (readings : List ℕ) (k : Colour) (i j : ℕ) → Fraction
+ruleExact f readings k i j = exactSample evenWeights (lit≤ tt) f 0 readings k i j
+
+-- for each number below n
+abbrev pub all : ℕ → (ℕ → Bool) → Bool
+all zero f = true
+all (suc n) f = f n && all n f
+
+-- every sample of plane k is the value at its row and column
+abbrev pub planeIs : Frame → (readings : List ℕ) (k : Colour) (value : (i j : ℕ) → ℕ) → Bool
+planeIs f readings k value = all (f .height) (λ i. all (f .width) (λ j. eqb (ruleSample f readings k i j) (value i j)))
+
+abbrev pub planesAre : Frame → (readings : List ℕ) (red green blue : (i j : ℕ) → ℕ) → Bool
+planesAre f readings red green blue = planeIs f readings Red red && (planeIs f readings Green green && planeIs f readings Blue blue)
+
+-- each claim of a table holds
+abbrev pub Every : {A : Type 0} → (holds : A → Type 0) → List A → Type 0
+Every holds [] = Unit
+Every holds (c ∷ l) = holds c × Every holds l

@@ -1,0 +1,141 @@
+#!/usr/bin/env python3
+"""Writes crates/figures/specs/WorkedPlanes.antt and WorkedExact.antt: tables of what the written rules must give.
+
+    python3 tools/make_figures.py SEED [DIRECTORY]     the committed files: SEED 1
+
+The values come from reference/ and from nothing else; the stage is tools/stage.py's. Each layout has a frame. A part of it is quiet, so that
+direction sums lie about the guard, a part is mild, and a part is wild, so that samples are stopped.
+"""
+import os
+import random
+import sys
+
+HERE = os.path.dirname(os.path.abspath(__file__))
+ROOT = os.path.dirname(HERE)
+sys.dont_write_bytecode = True
+sys.path.insert(0, os.path.join(ROOT, 'reference'))
+import reference as r  # noqa: E402
+from stage import STAGE  # noqa: E402
+
+RULES = r.Rules(STAGE)
+PLANES = 'Red', 'Green', 'Blue'
+LAST = ['₀', '₁', '₂', '₃']
+# by layout: width, height, how far a pixel lies from the quiet side, and where the mild and the wild part start
+FRAMES = (
+    (9, 8, lambda i, j: j, 5, 7),
+    (8, 9, lambda i, j: i, 5, 7),
+    (9, 9, lambda i, j: (i + j) // 2, 4, 6),
+    (8, 8, lambda i, j: 7 - j, 4, 6),
+)
+LONGEST = 120                        # digits of a fraction
+
+
+def readings(g, layout):
+    width, height, far, mild, wild = FRAMES[layout]
+    base = [g.randrange(200, 400) for _ in range(3)]
+
+    def reading(i, j):
+        z, quiet = far(i, j), base[r.colour(layout, i, j)]
+        if z < mild:
+            return quiet + (g.random() < 0.1)
+        if z < wild:
+            return quiet + g.randrange(12)
+        return g.choice((0, 4095, g.randrange(4096)))
+    return [reading(i, j) for i in range(height) for j in range(width)]
+
+
+# ------------------------------------------------------------ the places of the exact table
+def site(f, k, i, j):
+    """What plane k is worked out from at row i and column j."""
+    at = r.colour(f.layout, i, j)
+    if at == k:
+        return 'observed'
+    if k == r.G:
+        return PLANES[at]
+    if at != r.G:
+        return 'diagonal'
+    return 'in its row' if r.colour(f.layout, i, j + 1) == k else 'in its column'
+
+
+def edges(f, i, j):
+    return (i in (0, f.H - 1)) + (j in (0, f.W - 1))
+
+
+def digits(x):
+    return len(str(x.numerator) + str(x.denominator))
+
+
+def places(g, f, exact):
+    """For each plane and site a place whose value is no whole number and has few digits, if there is one at an edge for layouts 0 and 2 and inside
+    for 1 and 3; a corner; a place stopped at 0, one at the top, and an observed one."""
+    found = {}
+    for k in range(3):
+        for i in range(f.H):
+            for j in range(f.W):
+                x, s, e = exact[k][i * f.W + j], site(f, k, i, j), edges(f, i, j)
+                if s == 'observed':
+                    kind = s, 0
+                elif x in (0, r.TOP):
+                    kind = 'stopped', int(x)
+                elif x.denominator > 1 and digits(x) <= LONGEST:
+                    kind = ('corner', 0) if e == 2 else (s, k)
+                else:
+                    continue
+                found.setdefault(kind, []).append((k, i, j))
+    best = {kind: [p for p in found[kind] if edges(f, p[1], p[2]) == (f.layout + 1) % 2] or found[kind] for kind in found}
+    return sorted(g.choice(best[kind]) for kind in sorted(best))
+
+
+# ------------------------------------------------------------ the files
+def head(what, seed):
+    return ['-- %s Made by tools/make_figures.py %d from reference/, stage %s, and from nothing else. Assumes nothing.' % (what, seed, STAGE)]
+
+
+def lines(parts):
+    """A list of these parts, each on a line of its own."""
+    return ['    ' + ('∷ ' if n else '') + p for n, p in enumerate(parts)] + ['    ∷ []']
+
+
+def cells(f, name, plane):
+    return ['', 'abbrev pub %s : List ℕ' % name, '%s =' % name] + lines(' ∷ '.join(map(str, plane[i * f.W:(i + 1) * f.W])) for i in range(f.H))
+
+
+def claim(name, kind, value):
+    return ['', 'abbrev pub %s : %s' % (name, kind), '%s = %s' % (name, value)]
+
+
+def make(seed, directory):
+    g = random.Random(seed)
+    planes = head('Frames, one of each layout, and their planes by the whole-number rules. proofs/PlaneTable.antt has the theorem.', seed) + [
+        'use Prim.Native.Nat.{ℕ}',
+        'use mathlib.Core.List.{List, [], _∷_}',
+        'use Rattle.bayer.specs.declared.frame.Frame.{Frame}',
+        'use Rattle.figures.specs.Worked.{PlanesClaim, givesPlanes}',
+    ]
+    exact = head('Values of the exact reconstruction of the frames of WorkedPlanes.antt. proofs/ExactTable.antt has the theorem.', seed) + [
+        'use mathlib.Core.List.{List, [], _∷_}',
+        'use Rattle.bayer.specs.declared.colour.Colour.the-variants.{Red, Green, Blue}',
+        'use Rattle.figures.specs.Worked.{Value, exactly, ExactClaim, givesExact}',
+        'use Rattle.figures.specs.WorkedPlanes.{%s}' % ', '.join('frame%s, readings%s' % (n, n) for n in LAST),
+    ]
+    for layout, n in enumerate(LAST):
+        f = r.Frame(FRAMES[layout][0], FRAMES[layout][1], layout)
+        frame = readings(g, layout)
+        planes += claim('frame' + n, 'Frame', 'record { width = %d; height = %d; layout = %d }' % (f.W, f.H, layout))
+        planes += cells(f, 'readings' + n, frame)
+        for name, plane in zip(PLANES, r.whole(RULES, f, frame)):
+            planes += cells(f, name.lower() + n, plane)
+        planes += claim('planes' + n, 'PlanesClaim', 'givesPlanes frame%s readings%s red%s green%s blue%s' % (n, n, n, n, n))
+        values = r.exact_planes(RULES, f, frame)
+        exact += ['', 'abbrev pub values%s : List Value' % n, 'values%s =' % n] + lines(
+            'exactly %s %d %d %d %d' % (PLANES[k], i, j, x.numerator, x.denominator) for k, i, j in places(g, f, values) for x in [values[k][i * f.W + j]])
+        exact += claim('exact' + n, 'ExactClaim', 'givesExact frame%s readings%s values%s' % (n, n, n))
+    planes += claim('workedPlanes', 'List PlanesClaim', ' ∷ '.join('planes' + n for n in LAST) + ' ∷ []')
+    exact += claim('workedExact', 'List ExactClaim', ' ∷ '.join('exact' + n for n in LAST) + ' ∷ []')
+    for name, text in (('WorkedPlanes', planes), ('WorkedExact', exact)):
+        with open(os.path.join(directory, name + '.antt'), 'w', encoding='utf-8') as out:
+            out.write('\n'.join(text) + '\n')
+
+
+if __name__ == '__main__':
+    make(int(sys.argv[1]), sys.argv[2] if len(sys.argv) > 2 else os.path.join(ROOT, 'crates', 'figures', 'specs'))
