@@ -10,6 +10,7 @@ use Rattle.demosaic.specs.Exact.{mean, exactFill, exactOtherFrom, exactSample}
 use Rattle.figures.specs.Rule.{Every}
 use Rattle.figures.specs.Worked.{exactHolds}
 use Rattle.figures.specs.WorkedExact.{exact₀, exact₁, exact₂, exact₃, workedExact}
+use Rattle.figures.proofs.Tables.{_and_}
 
 exact₀-holds : exactHolds exact₀
 unfolding colours colourAt mirror rowOf difference DH DV GH GV sumOver/t² exactGreen exactGreenAt neighbours mean exactFill exactOtherFrom exactSample
@@ -28,4 +29,4 @@ unfolding colours colourAt mirror rowOf difference DH DV GH GV sumOver/t² exact
 exact₃-holds = tt
 
 pub worked-exact-hold : Every exactHolds workedExact
-worked-exact-hold = (exact₀-holds, (exact₁-holds, (exact₂-holds, (exact₃-holds, tt))))
+worked-exact-hold = exact₀-holds and exact₁-holds and exact₂-holds and exact₃-holds and tt

@@ -21,6 +21,7 @@ use Rattle.demosaic.specs.Fill.{fill}
 use Rattle.demosaic.specs.Sample.{neighbours, otherFrom, sample}
 use Rattle.figures.specs.Rule.{planeIs, Every}
 use Rattle.figures.specs.Figures.{adds, frame8, readings8, holds, figures}
+use Rattle.figures.proofs.Tables.{_and_}
 use Rattle.figures.proofs.PlaneTests.{planes-are}
 
 -- ---- directions of equal t have equal shares, so that fusion takes the mean of their five-sums
@@ -61,10 +62,6 @@ unfolding colours colourAt mirror rowOf difference fusion green DH DV GH GV gree
 greens-4095 = tt
 
 -- ---- the table
-
-infixr 5 _and_
-_and_ : {A B : Type 0} → A → B → A × B
-a and b = (a, b)
 
 pub figures-hold : Every holds figures
 unfolding colours colourAt mirror rowOf difference fusion fill neighbours otherFrom

@@ -1,5 +1,6 @@
+pub mod Tables
 pub mod PlaneTests
 pub mod FigureTable
-pub mod NotFifty
 pub mod PlaneTable
 pub mod ExactTable
+pub mod NotFifty

@@ -1,9 +1,15 @@
--- The figure 51 cannot become 50: a frame whose green is more than 50 hundredths away from the exact reconstruction, by computation. Assumes nothing.
+-- The figure 51 cannot become 50: a frame whose green is more than 50 hundredths away from the exact reconstruction, by computation; and a strip call delivers it. Assumes nothing.
+use mathlib.Core.Path.{_≡_, refl, _∙_, ap, subst}
+use mathlib.Core.List.{List}
+use Prim.Native.Nat.{ℕ}
 use lib.Dec.{le→leb, lit≤}
+use lib.ListN.{length, getD}
 use Rattle.whole.specs.Fraction.{natural, Within}
-use Rattle.bayer.specs.declared.colour.Colour.the-variants.{Green}
+use Rattle.bayer.specs.declared.colour.Colour.{Colour}
+use Rattle.bayer.specs.declared.colour.Colour.the-variants.{Red, Green, Blue}
 use Rattle.bayer.specs.Colour.{colours, colourAt}
 use Rattle.bayer.specs.Mirror.{mirror}
+use Rattle.bayer.specs.Refusal.{firstOf}
 use Rattle.bayer.specs.View.{rowOf}
 use Rattle.gbtf.specs.Difference.{difference}
 use Rattle.gbtf.specs.Fusion.{fusion, green}
@@ -12,9 +18,26 @@ use Rattle.gbtf.specs.GreenAt.{DH, DV, GH, GV, greenAt, exactGreenAt}
 use Rattle.gbtf.specs.Weights.{scale, evenWeights}
 use Rattle.demosaic.specs.Sample.{sample}
 use Rattle.demosaic.specs.Exact.{exactSample}
+use Rattle.strip.specs.Strip.{anyAbove, stripNumber, stripPlane, heldAfter, Promise}
+use Rattle.strip.proofs.StripLaws.{plane-at, promised}
 use Rattle.figures.specs.Figures.{frame8}
 use Rattle.figures.specs.Sharpness.{readings50}
 
 pub not-50 : Within (natural (sample scale evenWeights frame8 0 readings50 Green 2 2)) (exactSample evenWeights (lit≤ tt) frame8 0 readings50 Green 2 2) 50 100 → ⊥
 unfolding colours colourAt mirror rowOf difference fusion green DH DV GH GV greenAt sumOver/t² exactGreen exactGreenAt sample exactSample
 not-50 h = le→leb _ _ (h .low)
+
+-- a strip call over the whole frame accepts it
+pub accepted-50 : stripNumber frame8 0 8 readings50 64 64 64 ≡ 0
+unfolding firstOf anyAbove stripNumber
+accepted-50 = refl
+
+-- and if it keeps the contract, it delivers that green
+pub delivered-50 : (lent after : Colour → List ℕ) (answer : ℕ) → ((k : Colour) → length (lent k) ≡ 64) → Promise frame8 0 8 readings50 lent answer after
+    → (answer ≡ 0) × (Within (natural (getD (after Green) 18 0)) (exactSample evenWeights (lit≤ tt) frame8 0 readings50 Green 2 2) 50 100 → ⊥)
+unfolding heldAfter
+delivered-50 lent after answer h p =
+    let e : answer ≡ 0 = p .number ∙ rw (h Red, h Green, h Blue) accepted-50 in
+    let g : after Green ≡ stripPlane frame8 0 8 readings50 Green = promised p Green ∙ ap (λ n. heldAfter n (stripPlane frame8 0 8 readings50 Green) (lent Green)) e in
+    let v : getD (after Green) 18 0 ≡ sample scale evenWeights frame8 0 readings50 Green 2 2 = ap (λ l. getD l 18 0) g ∙ plane-at frame8 0 8 readings50 Green 2 2 (lit≤ tt) (lit≤ tt) in
+    (e, λ w. not-50 (subst (λ x. Within (natural x) (exactSample evenWeights (lit≤ tt) frame8 0 readings50 Green 2 2) 50 100) v w))

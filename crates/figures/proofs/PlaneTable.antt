@@ -14,6 +14,7 @@ use Rattle.demosaic.specs.Sample.{neighbours, otherFrom, sample}
 use Rattle.figures.specs.Rule.{planeIs, Every}
 use Rattle.figures.specs.Worked.{PlanesClaim, givesPlanes, listed, planesHold}
 use Rattle.figures.specs.WorkedPlanes.{planes₀, planes₁, planes₂, planes₃, workedPlanes}
+use Rattle.figures.proofs.Tables.{_and_}
 use Rattle.figures.proofs.PlaneTests.{fromGreens, planes-are}
 
 abbrev greensHold : PlanesClaim → Bool
@@ -45,10 +46,9 @@ greens₃ = tt
 
 pub worked-planes-hold : Every planesHold workedPlanes
 unfolding colours colourAt mirror rowOf fill neighbours otherFrom
-worked-planes-hold = (
-  planes-hold planes₀ greens₀ (lit≤ tt, lit≤ tt, tt, tt),
-  (
-    planes-hold planes₁ greens₁ (lit≤ tt, lit≤ tt, tt, tt),
-    (planes-hold planes₂ greens₂ (lit≤ tt, lit≤ tt, tt, tt), (planes-hold planes₃ greens₃ (lit≤ tt, lit≤ tt, tt, tt), tt)),
-  ),
-)
+worked-planes-hold =
+    planes-hold planes₀ greens₀ (lit≤ tt, lit≤ tt, tt, tt)
+    and planes-hold planes₁ greens₁ (lit≤ tt, lit≤ tt, tt, tt)
+    and planes-hold planes₂ greens₂ (lit≤ tt, lit≤ tt, tt, tt)
+    and planes-hold planes₃ greens₃ (lit≤ tt, lit≤ tt, tt, tt)
+    and tt
