@@ -1,10 +1,11 @@
--- Every value of the worked table of the exact reconstruction holds, by computation. Assumes nothing.
+-- Every value of the worked table of the exact reconstruction holds, by computation. The whole-number green is unfolded beside the exact one, so that a rule over it is refused by its values. Assumes nothing.
 use Rattle.bayer.specs.Colour.{colours, colourAt}
 use Rattle.bayer.specs.Mirror.{mirror}
 use Rattle.bayer.specs.View.{rowOf}
 use Rattle.gbtf.specs.Difference.{difference}
+use Rattle.gbtf.specs.Fusion.{fusion, green}
 use Rattle.gbtf.specs.Exact.{sumOver/t², exactGreen}
-use Rattle.gbtf.specs.GreenAt.{DH, DV, GH, GV, exactGreenAt}
+use Rattle.gbtf.specs.GreenAt.{DH, DV, GH, GV, greenAt, exactGreenAt}
 use Rattle.demosaic.specs.Sample.{neighbours}
 use Rattle.demosaic.specs.Exact.{mean, exactFill, exactOtherFrom, exactSample}
 use Rattle.figures.specs.Rule.{Every}
@@ -13,19 +14,19 @@ use Rattle.figures.specs.WorkedExact.{exact₀, exact₁, exact₂, exac
 use Rattle.figures.proofs.Tables.{_and_}
 
 exact₀-holds : exactHolds exact₀
-unfolding colours colourAt mirror rowOf difference DH DV GH GV sumOver/t² exactGreen exactGreenAt neighbours mean exactFill exactOtherFrom exactSample
+unfolding colours colourAt mirror rowOf difference fusion green DH DV GH GV greenAt sumOver/t² exactGreen exactGreenAt neighbours mean exactFill exactOtherFrom exactSample
 exact₀-holds = tt
 
 exact₁-holds : exactHolds exact₁
-unfolding colours colourAt mirror rowOf difference DH DV GH GV sumOver/t² exactGreen exactGreenAt neighbours mean exactFill exactOtherFrom exactSample
+unfolding colours colourAt mirror rowOf difference fusion green DH DV GH GV greenAt sumOver/t² exactGreen exactGreenAt neighbours mean exactFill exactOtherFrom exactSample
 exact₁-holds = tt
 
 exact₂-holds : exactHolds exact₂
-unfolding colours colourAt mirror rowOf difference DH DV GH GV sumOver/t² exactGreen exactGreenAt neighbours mean exactFill exactOtherFrom exactSample
+unfolding colours colourAt mirror rowOf difference fusion green DH DV GH GV greenAt sumOver/t² exactGreen exactGreenAt neighbours mean exactFill exactOtherFrom exactSample
 exact₂-holds = tt
 
 exact₃-holds : exactHolds exact₃
-unfolding colours colourAt mirror rowOf difference DH DV GH GV sumOver/t² exactGreen exactGreenAt neighbours mean exactFill exactOtherFrom exactSample
+unfolding colours colourAt mirror rowOf difference fusion green DH DV GH GV greenAt sumOver/t² exactGreen exactGreenAt neighbours mean exactFill exactOtherFrom exactSample
 exact₃-holds = tt
 
 pub worked-exact-hold : Every exactHolds workedExact

@@ -1,4 +1,4 @@
--- A frame's planes by its greens: where these are tested, red and blue are tested over the tested values, so that each green is computed once. Assumes nothing.
+-- A frame's planes by its greens: once these are tested, red and blue are tested over the tested values, so that each green is computed once. Assumes nothing.
 use mathlib.Core.Path.{_≡_, refl, sym, ap, ap₂, subst}
 use mathlib.Core.Bool.{Bool, true, false, _&&_}
 use mathlib.Core.List.{List}
@@ -11,14 +11,10 @@ use Rattle.whole.specs.Parts.{up}
 use Rattle.bayer.specs.declared.colour.Colour.{Colour}
 use Rattle.bayer.specs.declared.colour.Colour.the-variants.{Red, Green, Blue}
 use Rattle.bayer.specs.declared.frame.Frame.{Frame}
-use Rattle.gbtf.specs.Mosaic.{continued}
+use Rattle.gbtf.specs.Mosaic.{Mosaic, continued}
 use Rattle.demosaic.specs.Sample.{sampleFrom, sample}
 use Rattle.demosaic.proofs.SampleInside.{sampleFrom-inside}
-use Rattle.figures.specs.Rule.{ruleSample, all, planeIs, planesAre}
-
-both : (a b : Bool) → T a → T b → T (a && b)
-both true b s t = t
-both false b s t = s
+use Rattle.figures.specs.Rule.{ruleSample, all, planeIs, PlanesAre}
 
 first : (a b : Bool) → T (a && b) → T a
 first true b t = tt
@@ -37,20 +33,26 @@ all-same zero f g h = refl
 all-same (suc n) f g h = ap₂ (λ a b. a && b) (h n (omega arith)) (all-same n f g (λ i l. h i (omega arith)))
 
 module _ (f : Frame) (readings : List ℕ) (green : (i j : ℕ) → ℕ) where
-  -- plane k, red or blue, from these greens
+  abbrev m : Mosaic
+  m = continued f 0 readings
+
+  abbrev greenAt : (i j : ℤ) → ℕ
+  greenAt i j = green (up i) (up j)
+
+  -- plane k from these greens
   abbrev pub fromGreens : (k : Colour) (value : (i j : ℕ) → ℕ) → Bool
-  fromGreens k value = all (f .height) (λ i. all (f .width) (λ j. eqb (sampleFrom f (continued f 0 readings) (λ i j. green (up i) (up j)) k (pos i) (pos j)) (value i j)))
+  fromGreens k value = all (f .height) (λ i. all (f .width) (λ j. eqb (sampleFrom f m greenAt k (pos i) (pos j)) (value i j)))
 
   module _ (h : 2 ≤ f .height) (w : 2 ≤ f .width) (greens : T (planeIs f readings Green green)) where
     green-is : (i j : ℕ) → i < f .height → j < f .width → ruleSample f readings Green i j ≡ green i j
     green-is i j hi hj = eqb→eq _ _ (at (f .width) _ (at (f .height) (λ i. all (f .width) (λ j. eqb (ruleSample f readings Green i j) (green i j))) greens i hi) j hj)
 
-    sample-is : (k : Colour) (i j : ℕ) → i < f .height → j < f .width → ruleSample f readings k i j ≡ sampleFrom f (continued f 0 readings) (λ i j. green (up i) (up j)) k (pos i) (pos j)
+    sample-is : (k : Colour) (i j : ℕ) → i < f .height → j < f .width → ruleSample f readings k i j ≡ sampleFrom f m greenAt k (pos i) (pos j)
     unfolding sample
-    sample-is k i j hi hj = sampleFrom-inside f (continued f 0 readings) h w _ (λ i j. green (up i) (up j)) green-is i j hi hj k
+    sample-is k i j hi hj = sampleFrom-inside f m h w _ greenAt green-is i j hi hj k
 
     plane-is : (k : Colour) (value : (i j : ℕ) → ℕ) → T (fromGreens k value) → T (planeIs f readings k value)
     plane-is k value t = subst T (sym (all-same (f .height) _ _ (λ i hi. all-same (f .width) _ _ (λ j hj. ap (λ x. eqb x (value i j)) (sample-is k i j hi hj))))) t
 
-    pub planes-are : (red blue : (i j : ℕ) → ℕ) → T (fromGreens Red red) → T (fromGreens Blue blue) → T (planesAre f readings red green blue)
-    planes-are red blue r b = both (planeIs f readings Red red) (planeIs f readings Green green && planeIs f readings Blue blue) (plane-is Red red r) (both (planeIs f readings Green green) (planeIs f readings Blue blue) greens (plane-is Blue blue b))
+    pub planes-are : (red blue : (i j : ℕ) → ℕ) → T (fromGreens Red red) → T (fromGreens Blue blue) → PlanesAre f readings red green blue
+    planes-are red blue r b = (plane-is Red red r, greens, plane-is Blue blue b)

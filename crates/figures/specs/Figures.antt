@@ -16,7 +16,7 @@ use Rattle.gbtf.specs.Fusion.{smallest, share, shares, sharedDifferences, fusio
 use Rattle.gbtf.specs.Weights.{scale}
 use Rattle.demosaic.specs.Fill.{fill}
 use Rattle.demosaic.specs.Exact.{printed}
-use Rattle.figures.specs.Rule.{planesAre}
+use Rattle.figures.specs.Rule.{PlanesAre}
 
 pub data Claim : Type 0 where
   -- the difference, for a centre that is green or not
@@ -61,7 +61,7 @@ holds (sharesAre t₁ t₂ t₃ t₄ q₁ q₂ q₃ q₄) =
 holds (fusionAdds sum z) =
     (e w n s : Direction) → t e ≡ t w → t e ≡ t n → t e ≡ t s → e .differences +ℤ w .differences +ℤ n .differences +ℤ s .differences ≡ sum → adds e (w ∷ n ∷ s ∷ []) ≡ z
 holds (fillIs n g sum v) = T (eqb (fill n g sum) v)
-holds (planesOf red green blue R G B) = T (planesAre frame8 (readings8 red green blue) (λ i j. R) (λ i j. G) (λ i j. B))
+holds (planesOf red green blue R G B) = PlanesAre frame8 (readings8 red green blue) (λ i j. R) (λ i j. G) (λ i j. B)
 holds (mirrorReads size z v) = T (eqb (mirror size z) v)
 holds (printedIs k n) = T (eqb (printed k) n)
 

@@ -2,7 +2,7 @@
 use Prim.Native.Nat.{ℕ, zero, suc}
 use mathlib.Core.Bool.{Bool, true, _&&_}
 use mathlib.Core.List.{List, [], _∷_}
-use lib.Dec.{eqb, lit≤}
+use lib.Dec.{T, eqb, lit≤}
 use Rattle.whole.specs.Fraction.{Fraction}
 use Rattle.bayer.specs.declared.colour.Colour.{Colour}
 use Rattle.bayer.specs.declared.colour.Colour.the-variants.{Red, Green, Blue}
@@ -27,8 +27,8 @@ all (suc n) f = f n && all n f
 abbrev pub planeIs : Frame → (readings : List ℕ) (k : Colour) (value : (i j : ℕ) → ℕ) → Bool
 planeIs f readings k value = all (f .height) (λ i. all (f .width) (λ j. eqb (ruleSample f readings k i j) (value i j)))
 
-abbrev pub planesAre : Frame → (readings : List ℕ) (red green blue : (i j : ℕ) → ℕ) → Bool
-planesAre f readings red green blue = planeIs f readings Red red && (planeIs f readings Green green && planeIs f readings Blue blue)
+abbrev pub PlanesAre : Frame → (readings : List ℕ) (red green blue : (i j : ℕ) → ℕ) → Type 0
+PlanesAre f readings red green blue = T (planeIs f readings Red red) × T (planeIs f readings Green green) × T (planeIs f readings Blue blue)
 
 -- each claim of a table holds
 abbrev pub Every : {A : Type 0} → (holds : A → Type 0) → List A → Type 0

@@ -7,7 +7,7 @@ use lib.ListN.{getD}
 use Rattle.whole.specs.Fraction.{Fraction}
 use Rattle.bayer.specs.declared.colour.Colour.{Colour}
 use Rattle.bayer.specs.declared.frame.Frame.{Frame}
-use Rattle.figures.specs.Rule.{ruleExact, planesAre}
+use Rattle.figures.specs.Rule.{ruleExact, PlanesAre}
 
 -- ---- the three planes of a frame, row by row
 
@@ -19,7 +19,7 @@ abbrev pub listed : Frame → List ℕ → (i j : ℕ) → ℕ
 listed f l i j = getD l (i * f .width + j) 0
 
 abbrev pub planesHold : PlanesClaim → Type 0
-planesHold (givesPlanes f readings red green blue) = T (planesAre f readings (listed f red) (listed f green) (listed f blue))
+planesHold (givesPlanes f readings red green blue) = PlanesAre f readings (listed f red) (listed f green) (listed f blue)
 
 -- ---- some values of a frame's exact reconstruction
 

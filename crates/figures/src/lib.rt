@@ -1,1 +1,2 @@
-// Document 01's bench figures: a table in specs/Figures.antt, a theorem over it in proofs/FigureTable.antt, and no code.
+// Tables of figures and the theorems over them, and no code: document 01's bench figures (specs/Figures.antt), and what another implementation
+// worked out by the same rules (specs/WorkedPlanes.antt, specs/WorkedExact.antt).
