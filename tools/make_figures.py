@@ -66,8 +66,8 @@ def digits(x):
 
 
 def places(g, f, exact):
-    """For each plane and site a place whose value is no whole number and has few digits, if there is one at an edge for layouts 0 and 2 and inside
-    for 1 and 3; a corner; a place stopped at 0, one at the top, and an observed one."""
+    """For each plane and site a place whose value is no whole number and has few digits, where there is one at an edge for layouts 0 and 2 and
+    inside for 1 and 3; a corner; a place stopped at 0, one at the top, and an observed one."""
     found = {}
     for k in range(3):
         for i in range(f.H):
@@ -106,6 +106,7 @@ def claim(name, kind, value):
 
 def make(seed, directory):
     g = random.Random(seed)
+    frames = [readings(g, layout) for layout in range(4)]        # before the places, so that no stage changes them
     planes = head('Frames, one of each layout, and their planes by the whole-number rules. proofs/PlaneTable.antt has the theorem.', seed) + [
         'use Prim.Native.Nat.{ℕ}',
         'use mathlib.Core.List.{List, [], _∷_}',
@@ -120,7 +121,7 @@ def make(seed, directory):
     ]
     for layout, n in enumerate(LAST):
         f = r.Frame(FRAMES[layout][0], FRAMES[layout][1], layout)
-        frame = readings(g, layout)
+        frame = frames[layout]
         planes += claim('frame' + n, 'Frame', 'record { width = %d; height = %d; layout = %d }' % (f.W, f.H, layout))
         planes += cells(f, 'readings' + n, frame)
         for name, plane in zip(PLANES, r.whole(RULES, f, frame)):
