@@ -17,7 +17,7 @@ use Rattle.bayer.proofs.ColourLaws.{parity-colour, cells, by-layout}
 use Rattle.gbtf.specs.Mosaic.{continued}
 use Rattle.gbtf.specs.GreenAt.{isGreen}
 use Rattle.demosaic.specs.Sample.{Pixel, diagonal, inRow, inColumn, neighbours}
-use Rattle.whole.proofs.Lists.{Every}
+use Rattle.whole.specs.Lists.{Every}
 
 -- along an axis: what is read just before and just after a position has the other parity
 module _ (size p : ℕ) (h : 2 ≤ size) (k : p < size) where

@@ -16,7 +16,8 @@ use Rattle.gbtf.specs.Mosaic.{Mosaic}
 use Rattle.demosaic.specs.Fill.{colourDifference, sumOf, fill}
 use Rattle.demosaic.specs.Sample.{Pixel, readingOf, neighbours, otherFrom, sampleFrom}
 use Rattle.demosaic.proofs.Neighbours.{neighbours-cases}
-use Rattle.whole.proofs.Lists.{Every, map-same}
+use Rattle.whole.specs.Lists.{Every}
+use Rattle.whole.proofs.Lists.{map-same}
 
 -- along an axis: what is read just before, at and just after a position lies inside
 module _ (size p : ℕ) (h : 2 ≤ size) (k : p < size) where

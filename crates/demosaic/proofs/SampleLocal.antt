@@ -16,7 +16,8 @@ use Rattle.demosaic.specs.Fill.{colourDifference, sumOf, fill}
 use Rattle.demosaic.specs.Sample.{Pixel, colourDifferences, neighbours, otherFrom, sampleFrom}
 use Rattle.demosaic.specs.Exact.{exactDifference, exactFill, exactDifferences, exactOtherFrom, exactFrom}
 use Rattle.demosaic.proofs.Neighbours.{neighbours-cases}
-use Rattle.whole.proofs.Lists.{Every, map-same}
+use Rattle.whole.specs.Lists.{Every}
+use Rattle.whole.proofs.Lists.{map-same}
 
 module _ (f : Frame) (colour : ℤ → ℤ → Colour) (m n : ℤ → ℤ → ℕ) (i : ℤ) (read-same : (r : ℤ) → Near 1 i r → (j : ℤ) → m r j ≡ n r j)
     (here : Near 1 i i) (above : Near 1 i (pos (mirror (f .height) (i -ℤ pos 1)))) (level : Near 1 i (pos (mirror (f .height) i))) (below : Near 1 i (pos (mirror (f .height) (i +ℤ pos 1)))) where

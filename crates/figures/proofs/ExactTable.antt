@@ -8,7 +8,7 @@ use Rattle.gbtf.specs.Exact.{sumOver/t², exactGreen}
 use Rattle.gbtf.specs.GreenAt.{DH, DV, GH, GV, greenAt, exactGreenAt}
 use Rattle.demosaic.specs.Sample.{neighbours}
 use Rattle.demosaic.specs.Exact.{mean, exactFill, exactOtherFrom, exactSample}
-use Rattle.figures.specs.Rule.{Every}
+use Rattle.whole.specs.Lists.{Every}
 use Rattle.figures.specs.Worked.{exactHolds}
 use Rattle.figures.specs.WorkedExact.{exact₀, exact₁, exact₂, exact₃, workedExact}
 use Rattle.figures.proofs.Tables.{_and_}

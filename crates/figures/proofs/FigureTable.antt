@@ -19,7 +19,8 @@ use Rattle.gbtf.specs.GreenAt.{DH, DV, GH, GV, greenAt}
 use Rattle.gbtf.specs.Weights.{scale}
 use Rattle.demosaic.specs.Fill.{fill}
 use Rattle.demosaic.specs.Sample.{neighbours, otherFrom, sample}
-use Rattle.figures.specs.Rule.{planeIs, Every}
+use Rattle.whole.specs.Lists.{Every}
+use Rattle.figures.specs.Rule.{planeIs}
 use Rattle.figures.specs.Figures.{adds, frame8, readings8, holds, figures}
 use Rattle.figures.proofs.Tables.{_and_}
 use Rattle.figures.proofs.PlaneTests.{planes-are}

@@ -11,7 +11,8 @@ use Rattle.gbtf.specs.Fusion.{fusion, green}
 use Rattle.gbtf.specs.GreenAt.{DH, DV, GH, GV, greenAt}
 use Rattle.demosaic.specs.Fill.{fill}
 use Rattle.demosaic.specs.Sample.{neighbours, otherFrom, sample}
-use Rattle.figures.specs.Rule.{planeIs, Every}
+use Rattle.whole.specs.Lists.{Every}
+use Rattle.figures.specs.Rule.{planeIs}
 use Rattle.figures.specs.Worked.{PlanesClaim, givesPlanes, listed, planesHold}
 use Rattle.figures.specs.WorkedPlanes.{planes₀, planes₁, planes₂, planes₃, workedPlanes}
 use Rattle.figures.proofs.Tables.{_and_}

@@ -1,6 +1,6 @@
 -- A frame's planes by its greens: once these are tested, red and blue are tested over the tested values, so that each green is computed once. Assumes nothing.
 use mathlib.Core.Path.{_≡_, refl, sym, ap, ap₂, subst}
-use mathlib.Core.Bool.{Bool, true, false, _&&_}
+use mathlib.Core.Bool.{Bool, _&&_}
 use mathlib.Core.List.{List}
 use Prim.Native.Nat.{ℕ, zero, suc, _≤_, _<_}
 use native.Mathlib.Omega.{arith}
@@ -8,6 +8,7 @@ use native.Mathlib.Decide.{decLt}
 use lib.Dec.{T, eqb, eqb→eq}
 use lib.IntN.{ℤ, pos}
 use Rattle.whole.specs.Parts.{up}
+use Rattle.whole.proofs.Tests.{first, second}
 use Rattle.bayer.specs.declared.colour.Colour.{Colour}
 use Rattle.bayer.specs.declared.colour.Colour.the-variants.{Red, Green, Blue}
 use Rattle.bayer.specs.declared.frame.Frame.{Frame}
@@ -15,14 +16,6 @@ use Rattle.gbtf.specs.Mosaic.{Mosaic, continued}
 use Rattle.demosaic.specs.Sample.{sampleFrom, sample}
 use Rattle.demosaic.proofs.SampleInside.{sampleFrom-inside}
 use Rattle.figures.specs.Rule.{ruleSample, all, planeIs, PlanesAre}
-
-first : (a b : Bool) → T (a && b) → T a
-first true b t = tt
-first false b t = t
-
-second : (a b : Bool) → T (a && b) → T b
-second true b t = t
-second false b t = absurd t
 
 at : (n : ℕ) (f : ℕ → Bool) → T (all n f) → (i : ℕ) → i < n → T (f i)
 at zero f t i h = absurd (let z : ⊥ = omega arith in z)

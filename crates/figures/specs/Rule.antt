@@ -1,7 +1,7 @@
--- What the tables of this crate share: the written rules under one name each, the test of a frame's planes, and what holds of a table. Assumes nothing.
+-- What the tables of this crate share: the written rules under one name each, and the test of a frame's planes. Assumes nothing.
 use Prim.Native.Nat.{ℕ, zero, suc}
 use mathlib.Core.Bool.{Bool, true, _&&_}
-use mathlib.Core.List.{List, [], _∷_}
+use mathlib.Core.List.{List}
 use lib.Dec.{T, eqb, lit≤}
 use Rattle.whole.specs.Fraction.{Fraction}
 use Rattle.bayer.specs.declared.colour.Colour.{Colour}
@@ -29,8 +29,3 @@ planeIs f readings k value = all (f .height) (λ i. all (f .width) (λ j. eqb (r
 
 abbrev pub PlanesAre : Frame → (readings : List ℕ) (red green blue : (i j : ℕ) → ℕ) → Type 0
 PlanesAre f readings red green blue = T (planeIs f readings Red red) × T (planeIs f readings Green green) × T (planeIs f readings Blue blue)
-
--- each claim of a table holds
-abbrev pub Every : {A : Type 0} → (holds : A → Type 0) → List A → Type 0
-Every holds [] = Unit
-Every holds (c ∷ l) = holds c × Every holds l

@@ -1,4 +1,4 @@
--- A property of every element of a list; parts of a list. Assumes nothing.
+-- Laws of a property of every element of a list, and of parts of a list. Assumes nothing.
 use Prim.Native.Nat.{ℕ, zero, suc, _+_, _≤_}
 use mathlib.Core.Path.{_≡_, refl, sym, subst, ap₂}
 use mathlib.Core.List.{List, [], _∷_, map}
@@ -6,11 +6,7 @@ use native.Mathlib.Decide.{decLe}
 use native.Mathlib.Omega.{arith}
 use lib.ListN.{take, drop, getD, length-take, List·getD-eq-default}
 use lib.Seq.{take-take, getD-take, getD-drop}
-
--- every element has P
-abbrev pub Every : {A : Type 0} → (A → Type 0) → List A → Type 0
-Every P [] = Unit
-Every P (x ∷ l) = P x × Every P l
+use Rattle.whole.specs.Lists.{Every}
 
 pub every : {A : Type 0} {P Q : A → Type 0} → ((x : A) → P x → Q x) → (l : List A) → Every P l → Every Q l
 every f [] h = tt

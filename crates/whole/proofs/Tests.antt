@@ -1,10 +1,6 @@
--- Two tests at once. Assumes nothing.
+-- Both of two tests. Assumes nothing.
 use mathlib.Core.Bool.{Bool, true, false, _&&_}
 use lib.Dec.{T}
-
-pub both : (a b : Bool) → T a → T b → T (a && b)
-both true b s t = t
-both false b s t = s
 
 pub first : (a b : Bool) → T (a && b) → T a
 first true b t = tt

@@ -2,3 +2,4 @@ pub mod Parts
 pub mod Floor
 pub mod Clamp
 pub mod Fraction
+pub mod Lists
