@@ -10,14 +10,9 @@ import os
 import random
 import sys
 
-HERE = os.path.dirname(os.path.abspath(__file__))
-ROOT = os.path.dirname(HERE)
-sys.dont_write_bytecode = True
-sys.path.insert(0, os.path.join(ROOT, 'reference'))
-import reference as r  # noqa: E402
-from stage import STAGE  # noqa: E402
+from stage import ROOT, RULES, STAGE
+import reference as r
 
-RULES = r.Rules(STAGE)
 PLANES = 'Red', 'Green', 'Blue'
 LAST = ['₀', '₁', '₂', '₃']
 # by layout: width, height, how far a pixel lies from the quiet side, and where the mild and the wild part start
