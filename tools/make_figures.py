@@ -1,7 +1,7 @@
 #!/usr/bin/env python3
 """Writes crates/figures/specs/WorkedPlanes.antt and WorkedExact.antt: tables of what the written rules must give.
 
-    python3 tools/make_figures.py SEED [DIRECTORY]     the committed files: SEED 1
+    python3 tools/make_figures.py SEED [DIRECTORY]     the committed files: SEED 2
 
 The values come from reference/ and from nothing else; the stage is tools/stage.py's. Each layout has a frame. A part of it is quiet, so that
 direction sums lie about the guard, a part is mild, and a part is wild, so that samples are stopped.
@@ -62,7 +62,7 @@ def digits(x):
 
 def places(g, f, exact):
     """For each plane and site a place whose value is no whole number and has few digits, where there is one at an edge for layouts 0 and 2 and
-    inside for 1 and 3; a corner; a place stopped at 0, one at the top, and an observed one."""
+    inside for 1 and 3; a corner; green stopped at 0 and at the top, and so red or blue; and an observed place. By kind."""
     found = {}
     for k in range(3):
         for i in range(f.H):
@@ -71,14 +71,14 @@ def places(g, f, exact):
                 if s == 'observed':
                     kind = s, 0
                 elif x in (0, r.TOP):
-                    kind = 'stopped', int(x)
+                    kind = 'stopped green' if k == r.G else 'stopped', int(x)
                 elif x.denominator > 1 and digits(x) <= LONGEST:
                     kind = ('corner', 0) if e == 2 else (s, k)
                 else:
                     continue
                 found.setdefault(kind, []).append((k, i, j))
     best = {kind: [p for p in found[kind] if edges(f, p[1], p[2]) == (f.layout + 1) % 2] or found[kind] for kind in found}
-    return sorted(g.choice(best[kind]) for kind in sorted(best))
+    return {kind: g.choice(best[kind]) for kind in sorted(best)}
 
 
 # ------------------------------------------------------------ the files
@@ -114,6 +114,7 @@ def make(seed, directory):
         'use Rattle.figures.specs.Worked.{Value, exactly, ExactClaim, givesExact}',
         'use Rattle.figures.specs.WorkedPlanes.{%s}' % ', '.join('frame%s, readings%s' % (n, n) for n in LAST),
     ]
+    kinds = set()
     for layout, n in enumerate(LAST):
         f = r.Frame(FRAMES[layout][0], FRAMES[layout][1], layout)
         frame = frames[layout]
@@ -123,9 +124,12 @@ def make(seed, directory):
             planes += cells(f, name.lower() + n, plane)
         planes += claim('planes' + n, 'PlanesClaim', 'givesPlanes frame%s readings%s red%s green%s blue%s' % (n, n, n, n, n))
         values = r.exact_planes(RULES, f, frame)
+        chosen = places(g, f, values)
+        kinds.update(chosen)
         exact += ['', 'abbrev pub values%s : List Value' % n, 'values%s =' % n] + lines(
-            'exactly %s %d %d %d %d' % (PLANES[k], i, j, x.numerator, x.denominator) for k, i, j in places(g, f, values) for x in [values[k][i * f.W + j]])
+            'exactly %s %d %d %d %d' % (PLANES[k], i, j, x.numerator, x.denominator) for k, i, j in sorted(chosen.values()) for x in [values[k][i * f.W + j]])
         exact += claim('exact' + n, 'ExactClaim', 'givesExact frame%s readings%s values%s' % (n, n, n))
+    assert all((name, x) in kinds for name in ('stopped green', 'stopped') for x in (0, r.TOP)), 'another seed stops more'
     planes += claim('workedPlanes', 'List PlanesClaim', ' ∷ '.join('planes' + n for n in LAST) + ' ∷ []')
     exact += claim('workedExact', 'List ExactClaim', ' ∷ '.join('exact' + n for n in LAST) + ' ∷ []')
     for name, text in (('WorkedPlanes', planes), ('WorkedExact', exact)):

@@ -1,14 +1,13 @@
 #!/usr/bin/env python3
 """planes_cases.py SEED [DIRECTORY]: writes crates/planes_cases/stdin (SEED 1), frame files each behind a two-byte length,
-and crates/planes_cases/stdout, what reference/reference.py's program prints for each."""
+and crates/planes_cases/stdout, what reference/reference.py's program prints for each. Without a DIRECTORY it also writes
+crates/planes_long/stdin, a file that is a byte too long, and stdout."""
 import os
 import random
 import sys
 
 from stage import ROOT, RULES
 import reference
-
-WHERE = sys.argv[2] if len(sys.argv) > 2 else os.path.join(ROOT, 'crates', 'planes_cases')
 
 
 def frame_file(w, h, layout, readings, version=1, length=None):
@@ -69,8 +68,26 @@ def cases():
     yield frame_file(8, 8, 0, [100] * 63 + [4095])
 
 
-os.makedirs(WHERE, exist_ok=True)
-with open(os.path.join(WHERE, 'stdin'), 'wb') as out, open(os.path.join(WHERE, 'stdout'), 'w') as printed:
-    for data in cases():
-        out.write(len(data).to_bytes(2, 'big') + data)
-        printed.write(reference.program(RULES, data))
+def too_long():
+    """The longest frame file and one byte more."""
+    rnd = random.Random(int(sys.argv[1]))
+    data = frame_file(64, 64, 2, [rnd.randint(0, 4095) for _ in range(4096)])
+    assert len(data) == 8202 and 'refused' not in reference.program(RULES, data)
+    return data + b'\0'
+
+
+def write(where, stdin, files):
+    os.makedirs(where, exist_ok=True)
+    with open(os.path.join(where, 'stdin'), 'wb') as out, open(os.path.join(where, 'stdout'), 'w') as printed:
+        out.write(stdin)
+        for data in files:
+            printed.write(reference.program(RULES, data))
+
+
+made = list(cases())
+among = b''.join(len(data).to_bytes(2, 'big') + data for data in made)
+if len(sys.argv) > 2:
+    write(sys.argv[2], among, made)
+else:
+    write(os.path.join(ROOT, 'crates', 'planes_cases'), among, made)
+    write(os.path.join(ROOT, 'crates', 'planes_long'), too_long(), [too_long()])

@@ -1,6 +1,6 @@
 #!/usr/bin/env python3
 """The stage of the rules: document 01 with those requests of document 02 that have landed. A landing changes STAGE, and nothing else
-here; case makers, tests, stress test and benchmark all take it from this file.
+here; the makers of cases and figures, tests, stress test and benchmark all take it from this file.
 
     python3 tools/stage.py        prints words for gcc: the stage's number, which reference/demosaic.c takes, and the smallest width and height
 

@@ -1,5 +1,5 @@
-/* The strip call of reference/demosaic.c, for the stress test and the benchmark, which compile it under a name of theirs. choice -1,
- * method -1, nb -1 and preview 0: the call names none of them. */
+/* The strip call of reference/demosaic.c, for the stress test and the benchmark; the latter compiles it twice, under names of its
+ * own. choice -1, method -1, nb -1 and preview 0: the call names none of them. */
 #ifndef STRIP_GENERAL_H
 #define STRIP_GENERAL_H
 

@@ -1,4 +1,4 @@
--- Every figure of the table holds, by computation. Assumes nothing.
+-- Every figure of the table holds: those of fusion by a law of directions of equal t, the two frames by their greens, the others by computation. Assumes nothing.
 use mathlib.Core.Path.{_≡_, refl, _∙_, ap₂}
 use mathlib.Core.List.{List, [], _∷_}
 use Prim.Native.Nat.{ℕ, _+_, _*_, min}
@@ -69,7 +69,7 @@ unfolding colours colourAt mirror rowOf difference fusion fill neighbours otherF
 figures-hold =
     tt and tt
     and tt
-    and tt
+    and tt and tt
     and adds-is (pos 3) and adds-is (pos 2) and adds-is (negsuc 1) and adds-is (negsuc 2)
     and tt and tt and tt
     and planes-are frame8 (readings8 400 200 100) (λ i j. 3200) (lit≤ tt) (lit≤ tt) greens-400 (λ i j. 6400) (λ i j. 1600) tt tt

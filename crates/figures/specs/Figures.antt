@@ -69,7 +69,7 @@ abbrev pub figures : List Claim
 figures =
     differenceIs false 100 10 20 90 98 (negsuc 327) ∷ differenceIs true 100 10 20 90 98 (pos 328)
     ∷ sharesAre 4 4 4 8 134217728 134217728 134217728 33554432
-    ∷ sharesAre 12 4 12 12 14913080 134217728 14913080 14913080
+    ∷ sharesAre 12 4 12 12 14913080 134217728 14913080 14913080 ∷ sharesAre 12 12 12 4 14913080 14913080 14913080 134217728
     ∷ fusionAdds (pos 3) (pos 1) ∷ fusionAdds (pos 2) (pos 0) ∷ fusionAdds (negsuc 1) (pos 0) ∷ fusionAdds (negsuc 2) (negsuc 0)
     ∷ fillIs 4 10 (pos 2) 10 ∷ fillIs 4 10 (negsuc 1) 11 ∷ fillIs 2 10 (pos 1) 10
     ∷ planesOf 400 200 100 6400 3200 1600

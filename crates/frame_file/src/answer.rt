@@ -96,8 +96,8 @@ fn lesser(a: usize, b: usize) -> usize
     if a < b { a } else { b }
 }
 
-// The same for a file of which n bytes, its first or all of them, were read into a buffer. The buffer's size is part of the type: in one of 8202 bytes a file
-// that is a byte too long would not show.
+// The same for a file of which n bytes were read into a buffer: as many as the buffer holds, or all of the file. The buffer's size is part of the type: in one
+// of 8202 bytes a file that is a byte too long would not show.
 pub fn answer_read(bytes: [u8; 8203], n: usize, out: &mut [u8]) -> usize
     ensures { λ r. ⌜ ((file : List ℕ) → take n bytes ≡ take (length bytes) file → Answered (output file) (now (out .entry)) (now (out .exit)) r) ⌝ }
     ensures { λ r. ⌜ r ≤ 105 ⌝ }

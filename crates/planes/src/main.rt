@@ -1,10 +1,4 @@
-// Reads a frame file from standard input and prints the smallest, the largest and the sum of each plane, or the number of its refusal.
-use frame_file::answer::answer_read;
-
+// The small program: smallest, largest and sum of each plane of the frame file on standard input. rt check runs it on document 01's example.
 fn main() {
-    let mut bytes = [0u8; 8203];
-    let n = io::read_full(0, &mut bytes);
-    let mut out = [0u8; 105];
-    let size = answer_read(bytes, n, &mut out);
-    io::write_all(1, &out[..size]);
+    frame_program::run();
 }

@@ -1,10 +1,10 @@
--- `planes::main` meets its contract: what `answer_read` put into `out` lies within it. Assumes nothing.
+-- `frame_program::run` meets its contract: what `answer_read` put into `out` lies within it. Assumes nothing.
 use mathlib.Core.Path.{sym}
 use native.Mathlib.Omega.{arith}
 use borrow.Author.Needs.{needs}
 use lib.Seq.{length-take-le}
-use Rattle.planes.proofs.main.Statement.{statement}
-use Rattle.planes.proofs.main.Tie as tie
+use Rattle.frame_program.proofs.run.Statement.{statement}
+use Rattle.frame_program.proofs.run.Tie as tie
 
 slice-aggregate-read-full : tie.Need-slice-aggregate-read-full
 slice-aggregate-read-full c = search needs
@@ -30,8 +30,8 @@ write-all-requires c κs = search needs
 returns : tie.Need-returns
 returns c = search needs
 
-pub main-spec : {M : Type 1} → statement M
-main-spec =
+pub run-spec : {M : Type 1} → statement M
+run-spec =
     tie.close
     (tie.spec
     slice-aggregate-read-full
