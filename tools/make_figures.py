@@ -23,6 +23,9 @@ FRAMES = (
     (8, 8, lambda i, j: 7 - j, 4, 6),
 )
 LONGEST = 120                        # digits of a fraction
+# what the exact table has to have, by what a value is worked out from and its plane, or by where it was stopped
+KINDS = {(s, k) for s in ('in its row', 'in its column', 'diagonal') for k in (r.R, r.B)} | {('Red', r.G), ('Blue', r.G), ('corner', 0), ('observed', 0)}
+KINDS |= {(s, x) for s in ('stopped', 'stopped green') for x in (0, r.TOP)}
 
 
 def readings(g, layout):
@@ -129,7 +132,7 @@ def make(seed, directory):
         exact += ['', 'abbrev pub values%s : List Value' % n, 'values%s =' % n] + lines(
             'exactly %s %d %d %d %d' % (PLANES[k], i, j, x.numerator, x.denominator) for k, i, j in sorted(chosen.values()) for x in [values[k][i * f.W + j]])
         exact += claim('exact' + n, 'ExactClaim', 'givesExact frame%s readings%s values%s' % (n, n, n))
-    assert all((name, x) in kinds for name in ('stopped green', 'stopped') for x in (0, r.TOP)), 'another seed stops more'
+    assert kinds == KINDS, 'the frames of this seed lack %s' % (KINDS - kinds)
     planes += claim('workedPlanes', 'List PlanesClaim', ' ∷ '.join('planes' + n for n in LAST) + ' ∷ []')
     exact += claim('workedExact', 'List ExactClaim', ' ∷ '.join('exact' + n for n in LAST) + ' ∷ []')
     for name, text in (('WorkedPlanes', planes), ('WorkedExact', exact)):
