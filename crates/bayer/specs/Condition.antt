@@ -1,14 +1,17 @@
 -- Conditions of refusals. Assumes nothing.
 use Prim.Native.Nat.{ℕ, _+_, _*_}
 use mathlib.Core.Bool.{Bool, _||_}
-use mathlib.Core.List.{List, [], _∷_}
-use lib.Dec.{ltb}
+use mathlib.Core.List.{List, [], _∷_, _++_}
+use lib.Dec.{ltb, eqb}
 use Rattle.bayer.specs.declared.frame.Frame.{Frame}
-use Rattle.bayer.specs.Refusal.{Case, _when_, sizeOutOfRange, unknownLayout}
+use Rattle.bayer.specs.Refusal.{Case, _when_, sizeOutOfRange, unknownLayout, rowsOutsideFrame}
 
 -- 1, for a width or a height: outside 8 to 4096
 abbrev pub outsideSizes : ℕ → Bool
 outsideSizes n = ltb n 8 || ltb 4096 n
+
+abbrev pub sizeCases : (width height : ℕ) → List Case
+sizeCases width height = (sizeOutOfRange when (outsideSizes width || outsideSizes height)) ∷ []
 
 -- 2: a layout above 3
 abbrev pub unknown : (layout : ℕ) → Bool
@@ -16,7 +19,14 @@ unknown layout = ltb 3 layout
 
 -- both, of a frame description
 abbrev pub frameCases : Frame → List Case
-frameCases f = (sizeOutOfRange when (outsideSizes (f .width) || outsideSizes (f .height))) ∷ (unknownLayout when unknown (f .layout)) ∷ []
+frameCases f = sizeCases (f .width) (f .height) ++ (unknownLayout when unknown (f .layout)) ∷ []
+
+-- 3, of n rows from row a on: there is none, or they run past the frame
+abbrev pub rowsOutside : (H a n : ℕ) → Bool
+rowsOutside H a n = eqb n 0 || ltb H (a + n)
+
+abbrev pub rowsCases : Frame → (a n : ℕ) → List Case
+rowsCases f a n = (rowsOutsideFrame when rowsOutside (f .height) a n) ∷ []
 
 -- 7: a plane of this length lacks row i
 abbrev pub lacksRow : (length w i : ℕ) → Bool

@@ -1,5 +1,5 @@
 -- The refusals, their numbers, and conditions tested in their order. Assumes nothing.
-use Prim.Native.Nat.{ℕ}
+use Prim.Native.Nat.{ℕ, zero, suc}
 use mathlib.Core.Bool.{Bool, cond}
 use mathlib.Core.List.{List, [], _∷_}
 
@@ -38,3 +38,8 @@ r when b = record { refusal = r; holds = b }
 unfoldable pub firstOf : List Case → ℕ
 firstOf [] = 0
 firstOf (c ∷ cs) = cond (c .holds) (number (c .refusal)) (firstOf cs)
+
+-- what was lent to be written holds after a call of this number: accepted, what is delivered; refused, what it held
+unfoldable pub heldAfter : (number : ℕ) (delivered lent : List ℕ) → List ℕ
+heldAfter zero delivered lent = delivered
+heldAfter (suc n) delivered lent = lent

@@ -1,5 +1,5 @@
 ghost use mathlib.Core.Path.{_≡_};
-ghost use Rattle.bayer.specs.Condition.{outsideSizes, frameCases};
+ghost use Rattle.bayer.specs.Condition.{outsideSizes, frameCases, rowsOutside};
 ghost use Rattle.bayer.specs.Refusal.{firstOf};
 use crate::frame::Frame;
 use crate::refusal::SIZE_OUT_OF_RANGE;
@@ -29,4 +29,20 @@ pub fn frame_check(frame: Frame) -> u32
         return UNKNOWN_LAYOUT;
     }
     0
+}
+
+// Refusal 3: whether there is no row, or n rows from row a on run past the frame. The sum of a and n could wrap; the difference does not.
+pub fn rows_outside(h: usize, a: usize, n: usize) -> bool
+    ensures { λ r. ⌜ r ≡ rowsOutside h a n ⌝ }
+{
+    if n == 0 {
+        return true;
+    }
+    if h < n {
+        return true;
+    }
+    if h - n < a {
+        return true;
+    }
+    false
 }

@@ -1,15 +1,17 @@
 -- After any list of calls, each covered row holds the rule's samples, and every other row is as before. For any rule. Assumes nothing.
 use mathlib.Core.Path.{_≡_, _∙_, ap}
 use mathlib.Core.Logic.{inl, inr, ⊎-elim, Dec·and}
-use mathlib.Core.List.{List, [], _∷_, _++_}
+use mathlib.Core.List.{List, [], _∷_}
 use Prim.Native.Nat.{ℕ, suc, _+_, _*_, _-_, _≤_, _<_}
 use native.Mathlib.Nat.{mul-le-mul-right}
 use native.Mathlib.Decide.{decLe, decLt}
 use native.Mathlib.Omega.{arith}
-use lib.ListN.{length, getD, take, drop, length-append, length-take, length-drop, take-append-drop, List·getD-append}
-use lib.Seq.{getD-append-add, getD-take, getD-drop, length-take-le, drop-drop}
+use lib.ListN.{length, getD}
+use Rattle.lists.specs.Part.{put}
+use Rattle.lists.proofs.PutLaws.{put-same, length-put, put-before, put-in, put-after}
 use Rattle.bayer.specs.declared.colour.Colour.{Colour}
-use Rattle.calls.specs.Calls.{Planes, stretch, put, Call, accepted, refused, Step, Runs, Covers, Covered, After}
+use Rattle.bayer.specs.Planes.{Planes}
+use Rattle.calls.specs.Calls.{Call, accepted, refused, Step, Runs, Covers, Covered, After}
 
 dec-covers : (c : Call) (i : ℕ) → Dec (Covers c i)
 dec-covers (accepted a n) i = Dec·and (decLe a i) (decLt i _)
@@ -24,26 +26,6 @@ dec-covered (c ∷ l) i = go (dec-covers c i) (dec-covered l i)
     go (no h) (yes k) = yes (inr k)
     go (no h) (no k) = no (⊎-elim h k)
 
--- ---- a list with a stretch replaced
-
-put-stretch : (s size : ℕ) (l : List ℕ) → s + size ≤ length l → put s (stretch s size l) l ≡ l
-put-stretch s size l h = let e : length (take size (drop s l)) ≡ size = length-take-le size (drop s l) (simp length-drop (omega arith)) in rw e (rw (← drop-drop size s l, take-append-drop size (drop s l), take-append-drop s l))
-
-length-put : (s : ℕ) (new l : List ℕ) → s + length new ≤ length l → length (put s new l) ≡ length l
-length-put s new l h = simp (length-append, length-take, length-drop) (omega arith)
-
-put-before : (s : ℕ) (new l : List ℕ) (x : ℕ) → s + length new ≤ length l → x < s → getD (put s new l) x 0 ≡ getD l x 0
-put-before s new l x h k = List·getD-append (take s l) _ 0 x (simp length-take (omega arith)) ∙ getD-take s l x 0 k
-
-put-in : (s : ℕ) (new l : List ℕ) (x : ℕ) → s + length new ≤ length l → x < length new → getD (put s new l) (s + x) 0 ≡ getD new x 0
-put-in s new l x h k = let e : length (take s l) ≡ s = length-take-le s l (omega arith) in (rw e at (getD-append-add (take s l) (new ++ drop (s + length new) l) x 0)) ∙ List·getD-append new _ 0 x k
-
-put-after : (s : ℕ) (new l : List ℕ) (x : ℕ) → s + length new ≤ length l → getD (put s new l) (s + (length new + x)) 0 ≡ getD l (s + (length new + x)) 0
-put-after s new l x h =
-    let e : length (take s l) ≡ s = length-take-le s l (omega arith) in
-    let f : s + length new + x ≡ s + (length new + x) = omega arith in
-    (rw e at (getD-append-add (take s l) (new ++ drop (s + length new) l) (length new + x) 0)) ∙ getD-append-add new _ x 0 ∙ getD-drop (s + length new) l x 0 ∙ ap (λ n. getD l n 0) f
-
 -- ---- one call, on one plane
 
 module _ (W H : ℕ) (rule : Colour → ℕ → ℕ → ℕ) where
@@ -52,7 +34,7 @@ module _ (W H : ℕ) (rule : Colour → ℕ → ℕ → ℕ) where
 
   step-length : (c : Call) (p q : Planes) → Step W H rule c p q → ((k : Colour) → length (p k) ≡ W * H) → (k : Colour) → length (q k) ≡ W * H
   step-length (accepted a n) p q h e k = let r = h .1 k in ap length (r .2) ∙ length-put (a * W) (r .0) (p k) (fits a n (r .0) (p k) (h .0) (e k) (r .1 .size)) ∙ e k
-  step-length (refused from size) p q h e k = ap length (h k .1 ∙ put-stretch (from k) (size k) (p k) (h k .0)) ∙ e k
+  step-length (refused from size) p q h e k = ap length (h k .1 ∙ put-same (from k) (size k) (p k) (h k .0)) ∙ e k
 
   step-covers : (c : Call) (p q : Planes) → Step W H rule c p q → ((k : Colour) → length (p k) ≡ W * H) → (k : Colour) (i j : ℕ) → Covers c i → j < W → getD (q k) (i * W + j) 0 ≡ rule k i j
   step-covers (accepted a n) p q h e k i j v hj = ap (λ l. getD l (i * W + j) 0) (h .1 k .2) ∙ there ∙ h .1 k .1 .each (i - a) j u hj ∙ ap (λ m. rule k m j) x
@@ -92,7 +74,7 @@ module _ (W H : ℕ) (rule : Colour → ℕ → ℕ → ℕ) where
           by-cases : Dec (i < a + n) → a + n ≤ i
           by-cases (yes w) = absurd (v (omega arith, omega arith))
           by-cases (no w) = omega arith
-  step-others (refused from size) p q h e k i j v hj = ap (λ l. getD l (i * W + j) 0) (h k .1 ∙ put-stretch (from k) (size k) (p k) (h k .0))
+  step-others (refused from size) p q h e k i j v hj = ap (λ l. getD l (i * W + j) 0) (h k .1 ∙ put-same (from k) (size k) (p k) (h k .0))
 
   -- ---- the list
 

@@ -1,22 +1,14 @@
 -- What a list of calls does to three whole planes of W × H samples. Nothing here knows the rule: `rule` gives plane k's sample at a row and a column. Assumes nothing.
 use mathlib.Core.Path.{_≡_}
 use mathlib.Core.Logic.{_⊎_}
-use mathlib.Core.List.{List, [], _∷_, _++_}
+use mathlib.Core.List.{List, [], _∷_}
 use Prim.Native.Nat.{ℕ, _+_, _*_, _≤_, _<_}
-use lib.ListN.{length, getD, take, drop}
+use lib.ListN.{length, getD}
+use Rattle.lists.specs.Part.{part, put}
 use Rattle.bayer.specs.declared.colour.Colour.{Colour}
+use Rattle.bayer.specs.Planes.{Planes}
 
-abbrev pub Planes : Type 0
-Planes = Colour → List ℕ
-
--- the stretch of a plane from sample s on, size samples long; and the plane with a stretch replaced
-abbrev pub stretch : (s size : ℕ) → List ℕ → List ℕ
-stretch s size plane = take size (drop s plane)
-
-abbrev pub put : (s : ℕ) (new : List ℕ) → List ℕ → List ℕ
-put s new plane = take s plane ++ (new ++ drop (s + length new) plane)
-
--- a call of the list: accepted, for n rows from row a; or refused, and lent any stretch of each plane
+-- a call of the list: accepted, for n rows from row a; or refused, and lent any part of each plane
 pub data Call : Type 0 where
   accepted : (a n : ℕ) → Call
   refused : (from size : Colour → ℕ) → Call
@@ -30,7 +22,7 @@ module _ (W H : ℕ) (rule : Colour → ℕ → ℕ → ℕ) where
   -- a call finds the planes p and leaves q: accepted, it puts the rule's rows in their place; refused, it leaves what it was lent
   abbrev pub Step : Call → (p q : Planes) → Type 0
   Step (accepted a n) p q = (a + n ≤ H) × ((k : Colour) → (new : List ℕ) × Rows W rule k a n new × (q k ≡ put (a * W) new (p k)))
-  Step (refused from size) p q = (k : Colour) → (from k + size k ≤ length (p k)) × (q k ≡ put (from k) (stretch (from k) (size k) (p k)) (p k))
+  Step (refused from size) p q = (k : Colour) → (from k + size k ≤ length (p k)) × (q k ≡ put (from k) (part (from k) (size k) (p k)) (p k))
 
   -- a list of calls finds p and leaves q: each call finds what the one before it left
   abbrev pub Runs : List Call → (p q : Planes) → Type 0

@@ -3,10 +3,13 @@ ghost use mathlib.Core.Path.{_≡_};
 ghost use Prim.Native.Nat.{_*_};
 ghost use lib.ListN.{length};
 ghost use Rattle.bayer.specs.Colour.{partner};
+ghost use Rattle.bayer.specs.Frame.{frame};
 ghost use Rattle.bayer.specs.Piece.{pieceStart, pieceRows};
-ghost use Rattle.bayer.specs.View.{rowOf, rowViewNumber, partnerViewNumber, shown, shownFrom, planeOf};
-ghost use Rattle.strip.specs.Strip.{stripNumber, Promise, threePlanes};
-ghost use Rattle.capi.specs.Call.{frameOf, planeNumber};
+ghost use Rattle.lists.specs.Part.{rowOf};
+ghost use Rattle.bayer.specs.View.{rowViewNumber, partnerViewNumber, shown, shownFrom};
+ghost use Rattle.bayer.specs.Planes.{planeOf, threePlanes};
+ghost use Rattle.strip.specs.Strip.{stripNumber, Promise};
+ghost use Rattle.capi.specs.Call.{planeNumber};
 use bayer::colour::Colour;
 use bayer::colour::partner;
 use bayer::frame::Frame;
@@ -32,7 +35,7 @@ pub extern "C" fn rokzimp_strip_check(
     green: usize,
     blue: usize,
 ) -> u32
-    ensures { λ r. ⌜ r ≡ stripNumber (frameOf width height layout) a n (now (piece .entry)) red green blue ⌝ }
+    ensures { λ r. ⌜ r ≡ stripNumber (frame width height layout) a n (now (piece .entry)) red green blue ⌝ }
 {
     let frame = Frame::new(width, height, layout);
     strip_check(frame, a, n, piece, red, green, blue)
@@ -51,7 +54,7 @@ pub extern "C" fn rokzimp_strip(
     green: &mut [u16],
     blue: &mut [u16],
 ) -> u32
-    ensures { λ r. ⌜ Promise (frameOf width height layout) a n (now (piece .entry)) (threePlanes (now (red .entry)) (now (green .entry)) (now (blue .entry))) r (threePlanes (now (red .exit)) (now (green .exit)) (now (blue .exit))) ⌝ }
+    ensures { λ r. ⌜ Promise (frame width height layout) a n (now (piece .entry)) (threePlanes (now (red .entry)) (now (green .entry)) (now (blue .entry))) r (threePlanes (now (red .exit)) (now (green .exit)) (now (blue .exit))) ⌝ }
 {
     let frame = Frame::new(width, height, layout);
     strip(frame, a, n, piece, red, green, blue)
@@ -110,7 +113,7 @@ pub extern "C" fn rokzimp_partner_view_check(
     layout: u8,
     row: usize,
 ) -> u32
-    ensures { λ r. ⌜ r ≡ partnerViewNumber (length (now (red .entry))) (length (now (blue .entry))) (frameOf width height layout) row ⌝ }
+    ensures { λ r. ⌜ r ≡ partnerViewNumber (length (now (red .entry))) (length (now (blue .entry))) (frame width height layout) row ⌝ }
 {
     partner_view_check(red, blue, Frame::new(width, height, layout), row)
 }
@@ -138,7 +141,7 @@ pub extern "C" fn rokzimp_partner_view_start(
     layout: u8,
     row: usize,
 ) -> usize
-    ensures { λ r. ⌜ r ≡ shownFrom (partnerViewNumber (length (now (red .entry))) (length (now (blue .entry))) (frameOf width height layout) row) (row * width) ⌝ }
+    ensures { λ r. ⌜ r ≡ shownFrom (partnerViewNumber (length (now (red .entry))) (length (now (blue .entry))) (frame width height layout) row) (row * width) ⌝ }
 {
     if partner_view_check(red, blue, Frame::new(width, height, layout), row) != 0 {
         return 0;
@@ -156,7 +159,7 @@ pub extern "C" fn rokzimp_partner_view_length<'a>(
     layout: u8,
     row: usize,
 ) -> usize
-    ensures { λ r. ⌜ r ≡ length (shown (partnerViewNumber (length (now (red .entry))) (length (now (blue .entry))) (frameOf width height layout) row) (rowOf width row (planeOf (partner layout row) (now (red .entry)) (now (blue .entry))))) ⌝ }
+    ensures { λ r. ⌜ r ≡ length (shown (partnerViewNumber (length (now (red .entry))) (length (now (blue .entry))) (frame width height layout) row) (rowOf width row (planeOf (partner layout row) (now (red .entry)) (now (blue .entry))))) ⌝ }
 {
     partner_view(red, blue, Frame::new(width, height, layout), row).len()
 }

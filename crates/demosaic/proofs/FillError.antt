@@ -10,7 +10,7 @@ use Rattle.whole.specs.Floor.{floorDiv}
 use Rattle.whole.specs.Clamp.{clamp}
 use Rattle.whole.specs.Fraction.{Fraction, ratio, integer, natural, _+ᶠ_, _-ᶠ_, dividedBy, clampᶠ, Same, Within}
 use Rattle.whole.proofs.Pairs.{+ℤ-up, -ℤ-up}
-use Rattle.whole.specs.Lists.{Every}
+use Rattle.lists.specs.Every.{Every}
 use Rattle.whole.proofs.FractionLaws.{rounded-near, within-trans, within-add, within-sub, within-part, within-clamp, within-same, within-wider, within-from, within-to, within-less, within-eq, clamp-is}
 use Rattle.demosaic.specs.Fill.{colourDifference, sumOf, fill}
 use Rattle.demosaic.proofs.FillLaws.{fill-even}

@@ -12,12 +12,13 @@ use Rattle.bayer.specs.declared.colour.Colour.{Colour}
 use Rattle.bayer.specs.declared.frame.Frame.{Frame}
 use Rattle.bayer.specs.Mirror.{mirror}
 use Rattle.bayer.specs.Piece.{pieceStart, pieceEnd, pieceOf}
-use Rattle.bayer.specs.View.{rowOf}
+use Rattle.lists.specs.Part.{rowOf}
 use Rattle.bayer.proofs.MirrorLaws.{mirror-is}
 use Rattle.bayer.proofs.PieceLaws.{piece-row}
 use Rattle.gbtf.specs.Direction.{total}
-use Rattle.gbtf.specs.Mosaic.{continued}
-use Rattle.gbtf.proofs.GreenLocal.{Near, wider, greenAt-same, exactGreenAt-same}
+use Rattle.bayer.specs.Mosaic.{continued}
+use Rattle.bayer.proofs.Near.{Near, wider}
+use Rattle.gbtf.proofs.GreenLocal.{greenAt-same, exactGreenAt-same}
 use Rattle.demosaic.specs.Sample.{sample}
 use Rattle.demosaic.specs.Exact.{exactSample}
 use Rattle.demosaic.proofs.SampleLocal.{sampleFrom-same, exactFrom-same}

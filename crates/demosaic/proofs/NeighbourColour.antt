@@ -14,10 +14,9 @@ use Rattle.bayer.specs.Colour.{colours, colourAt, same}
 use Rattle.bayer.specs.Mirror.{mirror}
 use Rattle.bayer.proofs.MirrorLaws.{Reflected, mirror-inside, mirror-parity}
 use Rattle.bayer.proofs.ColourLaws.{parity-colour, cells, by-layout}
-use Rattle.gbtf.specs.Mosaic.{continued}
-use Rattle.gbtf.specs.GreenAt.{isGreen}
+use Rattle.bayer.specs.Mosaic.{continued, isGreen}
 use Rattle.demosaic.specs.Sample.{Pixel, diagonal, inRow, inColumn, neighbours}
-use Rattle.whole.specs.Lists.{Every}
+use Rattle.lists.specs.Every.{Every}
 
 -- along an axis: what is read just before and just after a position has the other parity
 module _ (size p : ℕ) (h : 2 ≤ size) (k : p < size) where

@@ -5,8 +5,7 @@ use lib.IntN.{ℤ, pos, _+ℤ_}
 use Rattle.bayer.specs.declared.colour.Colour.{Colour}
 use Rattle.bayer.specs.declared.frame.Frame.{Frame}
 use Rattle.bayer.specs.Colour.{same}
-use Rattle.gbtf.specs.Mosaic.{Mosaic}
-use Rattle.gbtf.specs.GreenAt.{isGreen}
+use Rattle.bayer.specs.Mosaic.{Mosaic, isGreen}
 use Rattle.demosaic.specs.Sample.{Pixel, diagonal, inRow, inColumn, neighbours}
 
 either : {A : Type 0} (P : A → Type 0) (b : Bool) (x y : A) → P x → P y → P (cond b x y)

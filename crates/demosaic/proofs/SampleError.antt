@@ -13,10 +13,10 @@ use Rattle.bayer.specs.declared.colour.Colour.the-variants.{Red, Green, Blue}
 use Rattle.bayer.specs.declared.frame.Frame.{Frame}
 use Rattle.bayer.specs.Colour.{same}
 use Rattle.bayer.specs.Mirror.{mirror}
-use Rattle.bayer.specs.View.{rowOf}
-use Rattle.bayer.proofs.ViewLaws.{row-at-most}
+use Rattle.lists.specs.Part.{rowOf}
+use Rattle.lists.proofs.BoundLaws.{row-at-most}
 use Rattle.gbtf.specs.Direction.{total}
-use Rattle.gbtf.specs.Mosaic.{Mosaic, continued}
+use Rattle.bayer.specs.Mosaic.{Mosaic, continued}
 use Rattle.gbtf.specs.GreenAt.{greenAt, exactGreenAt}
 use Rattle.gbtf.proofs.GreenBound.{within-cond, greenAt-sharp}
 use Rattle.demosaic.specs.Fill.{fill, sumOf}
@@ -25,7 +25,7 @@ use Rattle.demosaic.specs.Sample.{Pixel, diagonal, inRow, inColumn, read
 use Rattle.demosaic.specs.Exact.{exactFill, exactDifferences, exactOtherFrom, exactFrom, exactSample, printed}
 use Rattle.demosaic.proofs.Neighbours.{neighbours-cases}
 use Rattle.demosaic.proofs.FillError.{fill-within}
-use Rattle.whole.proofs.Lists.{everywhere}
+use Rattle.lists.proofs.EveryLaws.{everywhere}
 
 -- greens within a/(2c) everywhere give red and blue within 1/2 + 2a/(2c)
 module _ (f : Frame) (m : Mosaic) (G : (i j : ℤ) → ℕ) (E : (i j : ℤ) → Fraction) (a c : ℕ) (near : (i j : ℤ) → Within (natural (G i j)) (E i j) a (2 * c)) where

@@ -12,12 +12,12 @@ use Rattle.bayer.specs.declared.colour.Colour.the-variants.{Red, Green, Blue}
 use Rattle.bayer.specs.declared.frame.Frame.{Frame}
 use Rattle.bayer.specs.Colour.{same}
 use Rattle.bayer.specs.Mirror.{mirror}
-use Rattle.bayer.proofs.ViewLaws.{row-at-most}
+use Rattle.lists.proofs.BoundLaws.{row-at-most}
 use Rattle.gbtf.specs.declared.direction.Direction.{Direction}
 use Rattle.gbtf.specs.Direction.{total}
 use Rattle.gbtf.specs.Fusion.{smallest, shares, sharedDifferences, fusion, green}
-use Rattle.gbtf.specs.Mosaic.{Mosaic, continued}
-use Rattle.gbtf.specs.GreenAt.{isGreen, east, west, north, south, greenAt}
+use Rattle.bayer.specs.Mosaic.{Mosaic, continued, isGreen}
+use Rattle.gbtf.specs.GreenAt.{east, west, north, south, greenAt}
 use Rattle.demosaic.specs.Fill.{fill, sumOf}
 use Rattle.demosaic.specs.Sample.{neighbours, colourDifferences, otherFrom, sampleFrom, sample}
 

@@ -11,7 +11,7 @@ use Rattle.bayer.specs.declared.colour.Colour.the-variants.{Red, Green, Blue}
 use Rattle.bayer.specs.declared.frame.Frame.{Frame}
 use Rattle.bayer.specs.Colour.{same}
 use Rattle.gbtf.specs.Direction.{total}
-use Rattle.gbtf.specs.Mosaic.{Mosaic, continued}
+use Rattle.bayer.specs.Mosaic.{Mosaic, continued}
 use Rattle.gbtf.specs.GreenAt.{exactGreenAt}
 use Rattle.demosaic.specs.Sample.{Pixel, readingOf, neighbours}
 

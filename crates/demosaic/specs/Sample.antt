@@ -9,8 +9,8 @@ use Rattle.bayer.specs.declared.colour.Colour.the-variants.{Red, Green, Blue}
 use Rattle.bayer.specs.declared.frame.Frame.{Frame}
 use Rattle.bayer.specs.Colour.{same}
 use Rattle.bayer.specs.Mirror.{mirror}
-use Rattle.gbtf.specs.Mosaic.{Mosaic, continued}
-use Rattle.gbtf.specs.GreenAt.{isGreen, greenAt}
+use Rattle.bayer.specs.Mosaic.{Mosaic, continued, isGreen}
+use Rattle.gbtf.specs.GreenAt.{greenAt}
 use Rattle.demosaic.specs.Fill.{colourDifference, sumOf, fill}
 
 pub record Pixel : Type 0 where

@@ -10,7 +10,7 @@ use Rattle.whole.proofs.Pairs.{Pair, anyₚ, natₚ, _+ₚ_, _*ₚ_, eq-by, eq-
 use Rattle.bayer.specs.declared.colour.Colour.the-variants.{Green}
 use Rattle.bayer.specs.Colour.{colours, colourAt}
 use Rattle.bayer.specs.Mirror.{mirror}
-use Rattle.bayer.specs.View.{rowOf}
+use Rattle.lists.specs.Part.{rowOf}
 use Rattle.gbtf.specs.declared.direction.Direction.{Direction}
 use Rattle.gbtf.specs.Difference.{difference}
 use Rattle.gbtf.specs.Direction.{t}
@@ -19,7 +19,7 @@ use Rattle.gbtf.specs.GreenAt.{DH, DV, GH, GV, greenAt}
 use Rattle.gbtf.specs.Weights.{scale}
 use Rattle.demosaic.specs.Fill.{fill}
 use Rattle.demosaic.specs.Sample.{neighbours, otherFrom, sample}
-use Rattle.whole.specs.Lists.{Every}
+use Rattle.lists.specs.Every.{Every}
 use Rattle.figures.specs.Rule.{planeIs}
 use Rattle.figures.specs.Figures.{adds, frame8, readings8, holds, figures}
 use Rattle.figures.proofs.Tables.{_and_}

@@ -9,8 +9,8 @@ use Rattle.bayer.specs.declared.colour.Colour.{Colour}
 use Rattle.bayer.specs.declared.colour.Colour.the-variants.{Red, Green, Blue}
 use Rattle.bayer.specs.Colour.{colours, colourAt}
 use Rattle.bayer.specs.Mirror.{mirror}
-use Rattle.bayer.specs.Refusal.{firstOf}
-use Rattle.bayer.specs.View.{rowOf}
+use Rattle.bayer.specs.Refusal.{firstOf, heldAfter}
+use Rattle.lists.specs.Part.{rowOf}
 use Rattle.gbtf.specs.Difference.{difference}
 use Rattle.gbtf.specs.Fusion.{fusion, green}
 use Rattle.gbtf.specs.Exact.{sumOver/t², exactGreen}
@@ -18,7 +18,8 @@ use Rattle.gbtf.specs.GreenAt.{DH, DV, GH, GV, greenAt, exactGreenAt}
 use Rattle.gbtf.specs.Weights.{scale, evenWeights}
 use Rattle.demosaic.specs.Sample.{sample}
 use Rattle.demosaic.specs.Exact.{exactSample}
-use Rattle.strip.specs.Strip.{anyAbove, stripNumber, stripPlane, heldAfter, Promise}
+use Rattle.lists.specs.Bound.{anyAbove}
+use Rattle.strip.specs.Strip.{stripNumber, stripPlane, Promise}
 use Rattle.strip.proofs.StripLaws.{plane-at, promised}
 use Rattle.figures.specs.Figures.{frame8}
 use Rattle.figures.specs.Sharpness.{readings50}

@@ -5,13 +5,13 @@ use lib.Dec.{T, lit≤}
 use Rattle.bayer.specs.declared.colour.Colour.the-variants.{Red, Green, Blue}
 use Rattle.bayer.specs.Colour.{colours, colourAt}
 use Rattle.bayer.specs.Mirror.{mirror}
-use Rattle.bayer.specs.View.{rowOf}
+use Rattle.lists.specs.Part.{rowOf}
 use Rattle.gbtf.specs.Difference.{difference}
 use Rattle.gbtf.specs.Fusion.{fusion, green}
 use Rattle.gbtf.specs.GreenAt.{DH, DV, GH, GV, greenAt}
 use Rattle.demosaic.specs.Fill.{fill}
 use Rattle.demosaic.specs.Sample.{neighbours, otherFrom, sample}
-use Rattle.whole.specs.Lists.{Every}
+use Rattle.lists.specs.Every.{Every}
 use Rattle.figures.specs.Rule.{planeIs}
 use Rattle.figures.specs.Worked.{PlanesClaim, givesPlanes, listed, planesHold}
 use Rattle.figures.specs.WorkedPlanes.{planes₀, planes₁, planes₂, planes₃, workedPlanes}

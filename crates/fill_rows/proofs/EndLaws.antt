@@ -4,8 +4,8 @@ use mathlib.Core.Path.{_≡_, refl, ap, _∙_}
 use mathlib.Core.List.{List, [], _∷_}
 use native.Mathlib.Omega.{arith}
 use lib.ListN.{length, set}
-use Rattle.green_rows.specs.Table.{table}
-use Rattle.green_rows.proofs.TableLaws.{Filled, table-turn, table-done}
+use Rattle.lists.specs.Table.{table}
+use Rattle.lists.proofs.TableLaws.{Filled, table-turn, table-done}
 
 module _ {A : Type 0} (f : ℕ → A) where
   pub first-stored : (d : List A) {a : A} → 0 < length d → a ≡ f 0 → Filled f 1 (set d 0 a) (set d 0 a)

@@ -10,16 +10,15 @@ use Rattle.bayer.specs.declared.colour.Colour.{Colour}
 use Rattle.bayer.specs.declared.frame.Frame.{Frame}
 use Rattle.bayer.specs.Colour.{same, partner}
 use Rattle.bayer.specs.Mirror.{mirror}
-use Rattle.bayer.specs.View.{rowOf}
+use Rattle.lists.specs.Part.{rowOf}
 use Rattle.bayer.proofs.MirrorLaws.{mirror-inside}
 use Rattle.bayer.proofs.ColourLaws.{mirror-colour}
-use Rattle.gbtf.specs.Mosaic.{Mosaic, continued}
-use Rattle.gbtf.specs.GreenAt.{isGreen}
+use Rattle.bayer.specs.Mosaic.{Mosaic, continued, isGreen}
 use Rattle.demosaic.specs.Fill.{colourDifference, sumOf, fill}
 use Rattle.demosaic.specs.Sample.{Pixel, inRow, inColumn, diagonal, neighbours, colourDifferences, otherFrom}
-use Rattle.green_rows.specs.Table.{table}
-use Rattle.green_rows.specs.Buffer.{isOdd, startsGreen}
-use Rattle.green_rows.proofs.TableLaws.{getD-table, table-same}
+use Rattle.lists.specs.Table.{table}
+use Rattle.bayer.specs.Parity.{isOdd, startsGreen}
+use Rattle.lists.proofs.TableLaws.{getD-table, table-same}
 use Rattle.fill_rows.specs.Rows.{leftOf, rightOf, differenceAt, ownIn, otherIn, opposite}
 use Rattle.fill_rows.proofs.SideLaws.{Read, at-read, before-read, after-read, next-read}
 use Rattle.fill_rows.proofs.RowColours.{looks, shared, row-colours, after-odd}

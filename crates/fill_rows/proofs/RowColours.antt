@@ -10,7 +10,7 @@ use Rattle.bayer.specs.declared.colour.Colour.{Colour}
 use Rattle.bayer.specs.declared.colour.Colour.the-variants.{Green}
 use Rattle.bayer.specs.Colour.{colours, colourAt, same, partner}
 use Rattle.bayer.proofs.ColourLaws.{cells, by-layout}
-use Rattle.green_rows.specs.Buffer.{isOdd, startsGreen}
+use Rattle.bayer.specs.Parity.{isOdd, startsGreen}
 use Rattle.fill_rows.specs.Rows.{opposite}
 
 -- whether a colour is green, is p, is its opposite

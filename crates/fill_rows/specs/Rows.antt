@@ -8,7 +8,7 @@ use Rattle.bayer.specs.declared.colour.Colour.{Colour}
 use Rattle.bayer.specs.declared.colour.Colour.the-variants.{Red, Green, Blue}
 use Rattle.bayer.specs.Mirror.{mirror}
 use Rattle.demosaic.specs.Fill.{colourDifference, sumOf, fill}
-use Rattle.green_rows.specs.Buffer.{isOdd}
+use Rattle.bayer.specs.Parity.{isOdd}
 
 -- the columns that are read left and right of column j, in a row w wide
 abbrev pub leftOf : (w j : ℕ) → ℕ

@@ -11,7 +11,8 @@ use lib.Seq.{take-all}
 use Rattle.bayer.specs.declared.colour.Colour.{Colour}
 use Rattle.bayer.specs.declared.colour.Colour.the-variants.{Red, Green, Blue}
 use Rattle.bayer.specs.declared.frame.Frame.{Frame}
-use Rattle.strip.specs.Strip.{stripPlane, heldAfter, Promise}
+use Rattle.strip.specs.Strip.{stripPlane, Promise}
+use Rattle.bayer.specs.Refusal.{heldAfter}
 use Rattle.frame_file.specs.Text.{refusalLine}
 use Rattle.frame_file.specs.FrameFile.{frameOf, readings, malformed, fileNumber, framePlane, lines, answered, output}
 use Rattle.frame_file.proofs.FileLaws.{torn, number-is, plane-is}

@@ -13,16 +13,13 @@ use Rattle.bayer.specs.declared.frame.Frame.{Frame}
 use Rattle.bayer.specs.Condition.{outsideSizes, unknown}
 use Rattle.bayer.specs.Piece.{pieceRows}
 use Rattle.bayer.specs.Refusal.{firstOf}
-use Rattle.bayer.proofs.RefusalLaws.{neither}
-use Rattle.green_rows.specs.Table.{table}
-use Rattle.green_rows.proofs.TableLaws.{length-table}
-use Rattle.strip.specs.Strip.{stripNumber, stripPlane, anyAbove}
-use Rattle.strip.proofs.StripLaws.{size-fits}
+use Rattle.whole.proofs.Tests.{neither}
+use Rattle.lists.specs.Table.{table}
+use Rattle.lists.proofs.TableLaws.{length-table}
+use Rattle.strip.specs.Strip.{stripNumber, stripPlane}
+use Rattle.lists.specs.Bound.{anyAbove}
+use Rattle.bayer.proofs.RefusalLaws.{size-fits}
 use Rattle.frame_file.specs.FrameFile.{bigEndian, version, restLength, frameOf, readings, malformed, fileNumber, framePlane}
-
--- a frame by its parts
-pub frame-is : (f : Frame) {w h l : ℕ} → f .width ≡ w → f .height ≡ h → f .layout ≡ l → f ≡ record { width = w; height = h; layout = l }
-frame-is f p q r = rw (← p, ← q, ← r)
 
 pub torn : (bytes : List ℕ) → malformed bytes ≡ true → fileNumber bytes ≡ 8
 unfolding fileNumber firstOf

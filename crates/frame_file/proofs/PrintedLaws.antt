@@ -7,7 +7,8 @@ use native.Mathlib.Numerals.{add-one}
 use native.Mathlib.Omega.{arith}
 use lib.ListN.{length, take, drop, set, getD, length-append}
 use lib.Seq.{paste, paste-suc, take-all, set-split, length-take-le, take-at, drop-at, drop-drop}
-use Rattle.calls.specs.Calls.{put}
+use Rattle.lists.specs.Part.{put}
+use Rattle.lists.proofs.PutLaws.{put-put}
 use Rattle.frame_file.specs.Text.{Printed}
 
 pub printed-byte : (b at : ℕ) (l : List ℕ) → at < length l → Printed (b ∷ []) at l (set l at b) (at + 1)
@@ -21,13 +22,6 @@ pub printed-done : (s l : List ℕ) (at i : ℕ) {x : List ℕ} → i ≤ length
 printed-done s l at i {x} h k e =
     let q : i ≡ length s = omega arith in
     record { until = omega arith; bytes = e ∙ rw (take-all i s k, q) (append-assoc (take at l) s _) }
-
-put-put : (at : ℕ) (s t l : List ℕ) → at + length s ≤ length l → put (at + length s) t (put at s l) ≡ put at (s ++ t) l
-put-put at s t l h =
-    let d : List ℕ = drop (at + length s) l in
-    let e : length (take at l ++ s) ≡ at + length s = length-append (take at l) s ∙ ap (λ (k : ℕ). k + length s) (length-take-le at l (omega arith)) in
-    rw (← append-assoc (take at l) s d, take-at (take at l ++ s) d (at + length s) e, ← drop-drop (length t) (at + length s) (take at l ++ s ++ d), drop-at (take at l ++ s) d (at + length s) e, drop-drop (length t) (at + length s) l, length-append s t, ← add-assoc at (length s) (length t))
-    (append-assoc (take at l) s _ ∙ ap (λ (x : List ℕ). take at l ++ x) (sym (append-assoc s t _)))
 
 -- a text, and one behind it
 pub then : {s t : List ℕ} {at mid end : ℕ} {l m n : List ℕ} → Printed s at l m mid → Printed t mid m n end → at + length s ≤ length l → Printed (s ++ t) at l n end

@@ -7,12 +7,13 @@ use lib.ListN.{length, getD, drop}
 use Rattle.bayer.specs.declared.colour.Colour.{Colour}
 use Rattle.bayer.specs.declared.colour.Colour.the-variants.{Red, Green, Blue}
 use Rattle.bayer.specs.declared.frame.Frame.{Frame}
+use Rattle.bayer.specs.Frame.{frame}
 use Rattle.bayer.specs.Condition.{frameCases}
 use Rattle.bayer.specs.Refusal.{_when_, readingOutOfRange, malformedFile, firstOf}
 use Rattle.gbtf.specs.Weights.{scale, evenWeights}
 use Rattle.demosaic.specs.Sample.{sample}
-use Rattle.green_rows.specs.Table.{table, joined}
-use Rattle.strip.specs.Strip.{anyAbove}
+use Rattle.lists.specs.Table.{table, joined}
+use Rattle.lists.specs.Bound.{anyAbove}
 use Rattle.frame_file.specs.Text.{letter, planeLine, refusalLine}
 
 -- a number of n bytes from byte `at` on, big-endian
@@ -28,7 +29,7 @@ abbrev pub restLength : (bytes : List ℕ) → ℕ
 restLength bytes = bigEndian bytes 1 4
 
 abbrev pub frameOf : (bytes : List ℕ) → Frame
-frameOf bytes = record { width = bigEndian bytes 5 2; height = bigEndian bytes 7 2; layout = getD bytes 9 0 }
+frameOf bytes = frame (bigEndian bytes 5 2) (bigEndian bytes 7 2) (getD bytes 9 0)
 
 unfoldable pub readings : (bytes : List ℕ) → List ℕ
 readings bytes = table (λ k. bigEndian bytes (10 + 2 * k) 2) (frameOf bytes .width * frameOf bytes .height)

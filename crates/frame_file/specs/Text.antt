@@ -7,7 +7,7 @@ use lib.Dec.{ltb}
 use lib.ListN.{length}
 use Rattle.bayer.specs.declared.colour.Colour.{Colour}
 use Rattle.bayer.specs.declared.colour.Colour.the-variants.{Red, Green, Blue}
-use Rattle.calls.specs.Calls.{put}
+use Rattle.lists.specs.Part.{put}
 
 -- v, joined by f with one entry after the other
 unfoldable pub fold : (f : ℕ → ℕ → ℕ) (v : ℕ) → List ℕ → ℕ

@@ -3,7 +3,7 @@ ghost use mathlib.Core.Bool.{false};
 ghost use mathlib.Core.List.{List};
 ghost use Prim.Native.Nat.{ℕ, _*_, _≤_, min};
 ghost use lib.ListN.{length, take};
-ghost use Rattle.strip.specs.Strip.{threePlanes};
+ghost use Rattle.bayer.specs.Planes.{threePlanes};
 ghost use Rattle.frame_file.specs.Text.{Printed, Answered};
 ghost use Rattle.frame_file.specs.FrameFile.{frameOf, malformed, lines, output};
 use crate::file::frame_of;

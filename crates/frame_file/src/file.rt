@@ -1,7 +1,7 @@
 ghost use mathlib.Core.Path.{_≡_};
 ghost use Prim.Native.Nat.{_+_, _*_, _≤_, _<_};
 ghost use lib.ListN.{length};
-ghost use Rattle.green_rows.specs.Table.{table};
+ghost use Rattle.lists.specs.Table.{table};
 ghost use Rattle.frame_file.specs.FrameFile.{bigEndian, frameOf, malformed};
 use bayer::frame::Frame;
 

@@ -9,8 +9,8 @@ use Rattle.whole.specs.Fraction.{Fraction, ratio, natural, Within, Same}
 use Rattle.whole.proofs.Distance.{is-quotient}
 use Rattle.whole.proofs.FractionLaws.{within-same, within-wider}
 use Rattle.gbtf.specs.Direction.{directionSum, total}
-use Rattle.gbtf.specs.Mosaic.{Mosaic}
-use Rattle.gbtf.specs.GreenAt.{differenceAlong, isGreen, DH, DV, GH, GV, window, east, west, north, south, greenAt, exactGreenAt}
+use Rattle.bayer.specs.Mosaic.{Mosaic, isGreen}
+use Rattle.gbtf.specs.GreenAt.{differenceAlong, DH, DV, GH, GV, window, east, west, north, south, greenAt, exactGreenAt}
 use Rattle.gbtf.proofs.PixelLaws.{difference-within, gradient-within, direction-sum-within, five-sum-within}
 use Rattle.gbtf.proofs.GreenError.{green-within}
 

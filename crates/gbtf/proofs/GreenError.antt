@@ -11,8 +11,8 @@ use Rattle.whole.specs.Clamp.{clamp}
 use Rattle.whole.specs.Fraction.{Fraction, ratio, integer, natural, _+ᶠ_, times, dividedBy, quotient, clampᶠ, Same, Within}
 use Rattle.whole.proofs.Pairs.{+ℤ-up, up-times, down-times}
 use Rattle.whole.proofs.Magnitudes.{up-le, down-le}
-use Rattle.whole.specs.Lists.{Every}
-use Rattle.whole.proofs.Lists.{every, everywhere}
+use Rattle.lists.specs.Every.{Every}
+use Rattle.lists.proofs.EveryLaws.{every, everywhere}
 use Rattle.whole.proofs.FractionLaws.{within-trans, within-clamp, within-wider, add-up, within-from, within-to, within-shift, clamp-is, sum-is, rounded-near}
 use Rattle.gbtf.specs.declared.direction.Direction.{Direction}
 use Rattle.gbtf.specs.Direction.{t}

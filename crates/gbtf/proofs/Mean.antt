@@ -6,8 +6,8 @@ use native.Mathlib.Nat.{mul-pos, mul-le-mul-left, le-of-mul-le-mul-left, div-add
 use native.Mathlib.Decide.{decLe}
 use native.Mathlib.Omega.{arith}
 use lib.ListN.{length}
-use Rattle.whole.specs.Lists.{Every}
-use Rattle.whole.proofs.Lists.{every}
+use Rattle.lists.specs.Every.{Every}
+use Rattle.lists.proofs.EveryLaws.{every}
 use Rattle.whole.proofs.FractionLaws.{both}
 use Rattle.gbtf.specs.declared.direction.Direction.{Direction}
 use Rattle.gbtf.specs.Direction.{t}

@@ -19,8 +19,8 @@ use Rattle.gbtf.specs.declared.direction.Direction.{Direction}
 use Rattle.gbtf.specs.Difference.{difference, gradient, Readings}
 use Rattle.gbtf.specs.Direction.{directionSum, fiveSum, total, t}
 use Rattle.gbtf.specs.Fusion.{smallest, share, fusion, green, Fitting}
-use Rattle.gbtf.specs.Mosaic.{Mosaic}
-use Rattle.gbtf.specs.GreenAt.{isGreen, DH, DV, GH, GV, window, greenAt}
+use Rattle.bayer.specs.Mosaic.{Mosaic, isGreen}
+use Rattle.gbtf.specs.GreenAt.{DH, DV, GH, GV, window, greenAt}
 
 -- ---- differences and gradients
 abbrev pub differenceₚ : (green : Bool) (c l r p q : ℕ) → Pair (difference green c l r p q)

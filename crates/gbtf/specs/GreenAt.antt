@@ -4,14 +4,12 @@ use mathlib.Core.Bool.{Bool, cond}
 use mathlib.Core.List.{List, [], _∷_}
 use lib.IntN.{ℤ, pos, _+ℤ_, _-ℤ_}
 use Rattle.whole.specs.Fraction.{Fraction, natural}
-use Rattle.bayer.specs.declared.colour.Colour.the-variants.{Green}
-use Rattle.bayer.specs.Colour.{same}
 use Rattle.gbtf.specs.declared.direction.Direction.{Direction}
 use Rattle.gbtf.specs.Difference.{difference, gradient}
 use Rattle.gbtf.specs.Direction.{directionSum, fiveSum, total, direction}
 use Rattle.gbtf.specs.Fusion.{green}
 use Rattle.gbtf.specs.Exact.{exactGreen}
-use Rattle.gbtf.specs.Mosaic.{Mosaic}
+use Rattle.bayer.specs.Mosaic.{Mosaic, isGreen}
 
 -- along a line of positions, of which some are green: the difference at position k
 abbrev pub differenceAlong : (green : ℤ → Bool) (x : ℤ → ℕ) → ℤ → ℤ
@@ -22,19 +20,16 @@ abbrev pub gradientAlong : (D : ℤ → ℤ) → ℤ → ℕ
 gradientAlong D k = gradient (D (k -ℤ pos 1)) (D (k +ℤ pos 1))
 
 module _ (m : Mosaic) where
-  abbrev pub isGreen : (i j : ℤ) → Bool
-  isGreen i j = same (m .colour i j) Green
-
   -- along a row
   unfoldable pub DH : (i j : ℤ) → ℤ
-  DH i j = differenceAlong (λ k. isGreen i k) (λ k. m .reading i k) j
+  DH i j = differenceAlong (λ k. isGreen m i k) (λ k. m .reading i k) j
 
   unfoldable pub GH : (i j : ℤ) → ℕ
   GH i j = gradientAlong (λ k. DH i k) j
 
   -- along a column
   unfoldable pub DV : (i j : ℤ) → ℤ
-  DV i j = differenceAlong (λ k. isGreen k j) (λ k. m .reading k j) i
+  DV i j = differenceAlong (λ k. isGreen m k j) (λ k. m .reading k j) i
 
   unfoldable pub GV : (i j : ℤ) → ℕ
   GV i j = gradientAlong (λ k. DV k j) i

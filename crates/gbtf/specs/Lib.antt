@@ -2,6 +2,5 @@ pub mod Difference
 pub mod Direction
 pub mod Fusion
 pub mod Exact
-pub mod Mosaic
 pub mod GreenAt
 pub mod Weights

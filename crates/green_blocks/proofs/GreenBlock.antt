@@ -10,20 +10,23 @@ use lib.ListN.{length, getD, take, drop, length-append}
 use lib.Seq.{drop-append-add}
 use Rattle.bayer.specs.declared.frame.Frame.{Frame}
 use Rattle.bayer.specs.Mirror.{mirror}
-use Rattle.bayer.specs.View.{rowOf}
+use Rattle.lists.specs.Part.{rowOf, part}
 use Rattle.gbtf.specs.Difference.{difference, gradient}
-use Rattle.gbtf.specs.Mosaic.{continued}
+use Rattle.bayer.specs.Mosaic.{continued}
 use Rattle.gbtf.specs.GreenAt.{greenAt}
 use Rattle.gbtf.specs.Weights.{scale, evenWeights}
-use Rattle.green_rows.specs.Table.{table, joined, part}
-use Rattle.green_rows.specs.Buffer.{isOdd, startsGreen, differenceIn, gradientIn, greenIn, AllAtMost, AllWithin}
+use Rattle.lists.specs.Table.{table, joined}
+use Rattle.bayer.specs.Parity.{isOdd, startsGreen}
+use Rattle.green_rows.specs.Buffer.{differenceIn, gradientIn, greenIn}
+use Rattle.lists.specs.Bound.{AllAtMost, AllWithin}
 use Rattle.green_blocks.specs.Block.{greenRowIn}
 use Rattle.green_rows.specs.Extended.{column, extendedRow, Lent}
-use Rattle.green_rows.proofs.TableLaws.{length-table, table-same, table-part, joined-same, joined-rows, part-within}
-use Rattle.green_rows.proofs.PartLaws.{part-length, first-part, other-part, getD-part, part-part}
-use Rattle.whole.proofs.Lists.{all-part}
+use Rattle.lists.proofs.TableLaws.{length-table, table-same, table-part}
+use Rattle.lists.proofs.JoinedLaws.{joined-same, joined-rows, part-within}
+use Rattle.lists.proofs.PartLaws.{part-length, first-part, other-part, getD-part, part-part}
+use Rattle.lists.proofs.BoundLaws.{all-part}
 use Rattle.green_rows.proofs.BoundLaws.{extended-at-most, differences-within, gradients-at-most}
-use Rattle.green_rows.proofs.ParityLaws.{odd-by, starts-below, starts-next}
+use Rattle.bayer.proofs.ParityLaws.{odd-by, starts-below, starts-next}
 use Rattle.green_rows.proofs.RowLaws.{odd-row}
 use Rattle.green_rows.proofs.GreenRow.{row-start, row-end, Given, fused}
 

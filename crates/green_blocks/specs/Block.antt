@@ -2,8 +2,8 @@
 use Prim.Native.Nat.{ℕ, _+_, _-_, _*_, _%_}
 use mathlib.Core.List.{List}
 use lib.IntN.{ℤ}
-use Rattle.bayer.specs.View.{rowOf}
-use Rattle.green_rows.specs.Table.{table, part}
+use Rattle.lists.specs.Part.{rowOf, part}
+use Rattle.lists.specs.Table.{table}
 use Rattle.green_rows.specs.Buffer.{greenIn}
 
 -- row i of a block: x holds its rows of readings, w wide, and each other buffer what green of its first row is worked out from, and then what the next rows add

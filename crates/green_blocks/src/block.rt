@@ -5,19 +5,21 @@ ghost use mathlib.Core.List.{_++_};
 ghost use Prim.Native.Nat.{ℕ, _+_, _*_, _-_, _%_, _≤_, _<_};
 ghost use lib.IntN.{pos};
 ghost use lib.ListN.{length};
-ghost use Rattle.gbtf.specs.Mosaic.{continued};
+ghost use Rattle.bayer.specs.Mosaic.{continued};
 ghost use Rattle.gbtf.specs.GreenAt.{greenAt};
 ghost use Rattle.gbtf.specs.Weights.{scale, evenWeights};
-ghost use Rattle.green_rows.specs.Table.{table, joined, part};
-ghost use Rattle.green_rows.specs.Buffer.{differenceIn, gradientIn, AllAtMost, AllWithin};
+ghost use Rattle.lists.specs.Table.{table, joined};
+ghost use Rattle.lists.specs.Part.{part};
+ghost use Rattle.green_rows.specs.Buffer.{differenceIn, gradientIn};
+ghost use Rattle.lists.specs.Bound.{AllAtMost, AllWithin};
 ghost use Rattle.green_rows.specs.Extended.{Lent};
 ghost use Rattle.green_blocks.specs.Block.{greenRowIn};
 use crate::fetch::fetch;
 use bayer::frame::Frame;
+use bayer::parity::starts_green;
 use green_rows::along::differences;
 use green_rows::along::gradients;
 use green_rows::fuse::fuse;
-use green_rows::parity::starts_green;
 
 // The differences along the b + 2 rows in the middle of the readings, and then along the columns of the b + 8 in the middle.
 fn all_differences(x: &[u16], s: usize, m: usize, odd: usize, d: &mut [i32])

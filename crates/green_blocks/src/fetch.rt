@@ -1,7 +1,7 @@
 ghost use mathlib.Core.Path.{_≡_};
 ghost use Prim.Native.Nat.{ℕ, _+_, _*_, _≤_, _<_};
 ghost use lib.ListN.{length};
-ghost use Rattle.green_rows.specs.Table.{joined};
+ghost use Rattle.lists.specs.Table.{joined};
 ghost use Rattle.green_rows.specs.Extended.{extendedRow, Lent};
 use bayer::frame::Frame;
 use bayer::mirror::mirror;

@@ -1,32 +1,21 @@
 -- Bounds on what stands in the buffers. Assumes nothing.
-use Prim.Native.Nat.{ℕ, zero, suc, _+_, _-_, _*_, _≤_}
-use mathlib.Core.List.{List, [], _∷_, _++_}
+use Prim.Native.Nat.{ℕ, _+_, _-_, _*_, _≤_}
+use mathlib.Core.List.{List}
 use native.Mathlib.Omega.{arith}
 use lib.IntN.{ℤ, pos, natAbs, subℕ}
 use lib.ListN.{getD}
-use Rattle.whole.proofs.Lists.{All}
+use Rattle.lists.proofs.BoundLaws.{all-joined, row-at-most}
 use Rattle.bayer.specs.declared.frame.Frame.{Frame}
 use Rattle.bayer.specs.Mirror.{mirror}
-use Rattle.bayer.proofs.ViewLaws.{row-at-most}
 use Rattle.gbtf.specs.Direction.{directionSum}
 use Rattle.gbtf.proofs.PixelLaws.{difference-within, gradient-within, direction-sum-within}
-use Rattle.green_rows.specs.Table.{table, joined}
+use Rattle.lists.specs.Table.{table, joined}
 use Rattle.green_rows.specs.Directions.{windowIn}
-use Rattle.green_rows.specs.Buffer.{differenceIn, gradientIn, isOdd, AllAtMost, AllWithin}
+use Rattle.green_rows.specs.Buffer.{differenceIn, gradientIn}
+use Rattle.bayer.specs.Parity.{isOdd}
+use Rattle.lists.specs.Bound.{AllAtMost, AllWithin}
 use Rattle.green_rows.specs.Extended.{extendedRow}
-use Rattle.green_rows.proofs.TableLaws.{table-all}
-
--- ---- P of every entry, and of d, which is read past the end
-module _ {A : Type 0} (P : A → Type 0) (d : A) (past : P d) where
-  all-append : (xs ys : List A) → All P d past xs → All P d past ys → All P d past (xs ++ ys)
-  all-append [] ys h g k = g k
-  all-append (x ∷ xs) ys h g zero = h 0
-  all-append (x ∷ xs) ys h g (suc k) = all-append xs ys (λ j. h (suc j)) g k
-
-  pub all-joined : (f : ℕ → List A) (n : ℕ) → ((j : ℕ) → All P d past (f j)) → All P d past (joined f n)
-  unfolding joined
-  all-joined f zero h k = past
-  all-joined f (suc n) h k = all-append (joined f n) (f n) (all-joined f n h) (h n) k
+use Rattle.lists.proofs.TableLaws.{table-all}
 
 -- ---- rows of readings
 pub extended-at-most : (f : Frame) (first : ℕ) (rows : List ℕ) (v s n : ℕ) {m : ℕ} → AllAtMost m rows → AllAtMost m (joined (extendedRow f first rows v s) n)

@@ -12,11 +12,15 @@ use Rattle.gbtf.specs.Direction.{direction, directionSum, fiveSum, total}
 use Rattle.gbtf.specs.Fusion.{green}
 use Rattle.gbtf.specs.Weights.{scale, evenWeights}
 use Rattle.gbtf.proofs.PixelLaws.{five-sum-within, five-sum-same}
-use Rattle.green_rows.specs.Table.{table, joined}
+use Rattle.lists.specs.Table.{table, joined}
 use Rattle.green_rows.specs.Directions.{windowIn, after, before, reversed, sumIn, fiveIn, directionIn, directionFrom}
-use Rattle.green_rows.specs.Buffer.{isOdd, fusedBy, greenFrom, greenIn, AllAtMost, AllWithin}
-use Rattle.green_rows.proofs.TableLaws.{table-same, table-all, parts, getD-parts}
-use Rattle.green_rows.proofs.BoundLaws.{all-joined, window-at-most}
+use Rattle.bayer.specs.Parity.{isOdd}
+use Rattle.green_rows.specs.Buffer.{fusedBy, greenFrom, greenIn}
+use Rattle.lists.specs.Bound.{AllAtMost, AllWithin}
+use Rattle.lists.proofs.TableLaws.{table-same, table-all}
+use Rattle.lists.proofs.JoinedLaws.{parts, getD-parts}
+use Rattle.lists.proofs.BoundLaws.{all-joined}
+use Rattle.green_rows.proofs.BoundLaws.{window-at-most}
 
 -- ---- one place
 pub sum-at : (s : ℕ) (g : List ℕ) {p q : ℕ} → p ≡ q → directionSum (windowIn s g p) ≡ directionSum (windowIn s g q)

@@ -9,16 +9,17 @@ use lib.IntN.{ℤ, pos, subℕ}
 use lib.ListN.{length, getD}
 use Rattle.bayer.specs.declared.frame.Frame.{Frame}
 use Rattle.bayer.specs.Mirror.{mirror}
-use Rattle.bayer.specs.View.{rowOf}
+use Rattle.lists.specs.Part.{rowOf, part}
 use Rattle.bayer.proofs.MirrorLaws.{mirror-inside}
-use Rattle.gbtf.specs.Mosaic.{continued}
+use Rattle.bayer.specs.Mosaic.{continued}
 use Rattle.gbtf.specs.GreenAt.{greenAt}
 use Rattle.gbtf.specs.Weights.{scale, evenWeights}
-use Rattle.green_rows.specs.Table.{table, joined, part}
-use Rattle.green_rows.specs.Buffer.{startsGreen, differenceIn, gradientIn, greenIn}
+use Rattle.lists.specs.Table.{table, joined}
+use Rattle.bayer.specs.Parity.{startsGreen}
+use Rattle.green_rows.specs.Buffer.{differenceIn, gradientIn, greenIn}
 use Rattle.green_rows.specs.Extended.{extendedRow, Lent}
-use Rattle.green_rows.proofs.TableLaws.{table-same}
-use Rattle.green_rows.proofs.PartLaws.{getD-part}
+use Rattle.lists.proofs.TableLaws.{table-same}
+use Rattle.lists.proofs.PartLaws.{getD-part}
 use Rattle.green_rows.proofs.RowLaws.{at-place, reading-at, green-is}
 
 -- row v is among the rows that are lent

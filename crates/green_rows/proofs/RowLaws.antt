@@ -12,20 +12,22 @@ use lib.Seq.{length-take-le}
 use Rattle.whole.proofs.Pairs.{natₚ, subₚ, _+ₚ_, _-ₚ_, eq-by}
 use Rattle.bayer.specs.declared.frame.Frame.{Frame}
 use Rattle.bayer.specs.Mirror.{mirror}
-use Rattle.bayer.specs.View.{rowOf}
+use Rattle.lists.specs.Part.{rowOf}
 use Rattle.gbtf.specs.Difference.{difference, gradient}
 use Rattle.gbtf.specs.Direction.{directionSum, total, direction}
 use Rattle.gbtf.specs.Fusion.{green}
-use Rattle.gbtf.specs.Mosaic.{Mosaic, continued}
+use Rattle.bayer.specs.Mosaic.{Mosaic, continued, isGreen}
 use Rattle.gbtf.proofs.PixelLaws.{five-sum-same}
-use Rattle.gbtf.specs.GreenAt.{differenceAlong, gradientAlong, isGreen, DH, DV, GH, GV, threeFrom, window, east, west, north, south, greenAt}
-use Rattle.green_rows.specs.Table.{table, joined}
+use Rattle.gbtf.specs.GreenAt.{differenceAlong, gradientAlong, DH, DV, GH, GV, threeFrom, window, east, west, north, south, greenAt}
+use Rattle.lists.specs.Table.{table, joined}
 use Rattle.green_rows.specs.Directions.{threeIn, windowIn, directionIn}
-use Rattle.green_rows.specs.Buffer.{isOdd, startsGreen, differenceIn, gradientIn, fusedBy, greenIn}
+use Rattle.bayer.specs.Parity.{isOdd, startsGreen}
+use Rattle.green_rows.specs.Buffer.{differenceIn, gradientIn, fusedBy, greenIn}
 use Rattle.green_rows.specs.Extended.{extendedRow, Lent}
 use Rattle.bayer.proofs.MirrorLaws.{mirror-near, mirror-inside}
-use Rattle.green_rows.proofs.ParityLaws.{place-green, starts-below}
-use Rattle.green_rows.proofs.TableLaws.{length-table, getD-table, getD-joined}
+use Rattle.bayer.proofs.ParityLaws.{place-green, starts-below}
+use Rattle.lists.proofs.TableLaws.{length-table, getD-table}
+use Rattle.lists.proofs.JoinedLaws.{getD-joined}
 
 -- ---- positions: place n is position n − b
 

@@ -1,25 +1,16 @@
 -- What stands in a buffer of rows of readings, and what is worked out from it at each place. A row is s places wide, s odd, so that neighbours along
 -- a row are 1 place apart and along a column s places, and a place is green by its parity alone. Assumes nothing.
-use Prim.Native.Nat.{ℕ, _+_, _*_, _%_, _≤_}
-use mathlib.Core.Bool.{Bool, cond}
+use Prim.Native.Nat.{ℕ, _+_, _*_}
+use mathlib.Core.Bool.{cond}
 use mathlib.Core.List.{List, [], _∷_}
-use lib.Dec.{eqb}
-use lib.IntN.{ℤ, pos, natAbs}
+use lib.IntN.{ℤ, pos}
 use lib.ListN.{length, getD}
-use Rattle.bayer.specs.declared.colour.Colour.the-variants.{Green}
-use Rattle.bayer.specs.Colour.{colourAt, same}
+use Rattle.bayer.specs.Parity.{isOdd}
 use Rattle.gbtf.specs.declared.direction.Direction.{Direction}
 use Rattle.gbtf.specs.Difference.{difference, gradient}
 use Rattle.gbtf.specs.Direction.{total}
 use Rattle.gbtf.specs.Fusion.{green}
 use Rattle.green_rows.specs.Directions.{directionIn, directionFrom}
-
-abbrev pub isOdd : ℕ → Bool
-isOdd n = eqb (n % 2) 1
-
--- 1 where column 0 of row v is green, else 0: column j is green where j + this is odd
-abbrev pub startsGreen : (layout v : ℕ) → ℕ
-startsGreen layout v = cond (same (colourAt layout v 0) Green) 1 0
 
 -- the difference at place k + 2 step of x, along an axis whose places are step apart; place k + 2 step is green where k + odd is odd
 abbrev pub differenceIn : (step odd : ℕ) (x : List ℕ) → ℕ → ℤ
@@ -44,10 +35,3 @@ greenIn K ws s odd x dh dv gh gv j = greenBy K (total ws) odd x (directionIn ws 
 -- from the row's direction sums t and five-sums f
 unfoldable pub greenFrom : (K T odd : ℕ) (x t : List ℕ) (f : List ℤ) (j : ℕ) → ℕ
 greenFrom K T odd x t f j = greenBy K T odd x (directionFrom (length x) t f j) j
-
--- every one is at most m, also in magnitude
-abbrev pub AllAtMost : (m : ℕ) → List ℕ → Type 0
-AllAtMost m l = (k : ℕ) → getD l k 0 ≤ m
-
-abbrev pub AllWithin : (m : ℕ) → List ℤ → Type 0
-AllWithin m l = (k : ℕ) → natAbs (getD l k (pos 0)) ≤ m

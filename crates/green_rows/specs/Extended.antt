@@ -5,8 +5,8 @@ use lib.IntN.{subℕ}
 use lib.ListN.{length, getD}
 use Rattle.bayer.specs.declared.frame.Frame.{Frame}
 use Rattle.bayer.specs.Mirror.{mirror}
-use Rattle.bayer.specs.View.{rowOf}
-use Rattle.green_rows.specs.Table.{table}
+use Rattle.lists.specs.Part.{rowOf}
+use Rattle.lists.specs.Table.{table}
 
 -- place c of a row is column c − 7
 abbrev pub column : (row : List ℕ) (c : ℕ) → ℕ

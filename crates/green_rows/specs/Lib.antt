@@ -1,4 +1,3 @@
-pub mod Table
 pub mod Directions
 pub mod Buffer
 pub mod Extended

@@ -1,11 +1,12 @@
 ghost use mathlib.Core.Path.{_≡_};
 ghost use Prim.Native.Nat.{_+_, _*_, _≤_, _<_};
 ghost use lib.ListN.{length};
-ghost use Rattle.green_rows.specs.Table.{table};
+ghost use Rattle.lists.specs.Table.{table};
 ghost use Rattle.gbtf.specs.Direction.{total};
 ghost use Rattle.gbtf.specs.Weights.{scale, evenWeights};
 ghost use Rattle.green_rows.specs.Directions.{directionFrom};
-ghost use Rattle.green_rows.specs.Buffer.{fusedBy, greenFrom, greenIn, AllAtMost, AllWithin};
+ghost use Rattle.green_rows.specs.Buffer.{fusedBy, greenFrom, greenIn};
+ghost use Rattle.lists.specs.Bound.{AllAtMost, AllWithin};
 use crate::directions::row_fives;
 use crate::directions::row_sums;
 use crate::weights::SCALE;

@@ -3,6 +3,5 @@ pub mod along;
 pub mod directions;
 pub mod extend;
 pub mod fuse;
-pub mod parity;
 pub mod sums;
 pub mod weights;

@@ -2,9 +2,9 @@ ghost use mathlib.Core.Path.{_≡_};
 ghost use Prim.Native.Nat.{_+_, _*_, _≤_, _<_};
 ghost use lib.ListN.{length};
 ghost use Rattle.gbtf.specs.Direction.{directionSum, fiveSum, total};
-ghost use Rattle.green_rows.specs.Table.{table};
+ghost use Rattle.lists.specs.Table.{table};
 ghost use Rattle.green_rows.specs.Directions.{windowIn, after};
-ghost use Rattle.green_rows.specs.Buffer.{AllAtMost, AllWithin};
+ghost use Rattle.lists.specs.Bound.{AllAtMost, AllWithin};
 use gbtf::direction::direction_sum;
 use gbtf::direction::five_sum;
 

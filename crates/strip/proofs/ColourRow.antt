@@ -15,15 +15,16 @@ use Rattle.bayer.specs.declared.colour.Colour.the-variants.{Red, Green, Blue}
 use Rattle.bayer.specs.declared.frame.Frame.{Frame}
 use Rattle.bayer.specs.Colour.{same, partner}
 use Rattle.bayer.specs.Mirror.{mirror}
-use Rattle.bayer.specs.View.{rowOf}
+use Rattle.lists.specs.Part.{rowOf}
 use Rattle.bayer.proofs.ColourLaws.{partner-shares}
-use Rattle.green_rows.specs.Table.{table}
-use Rattle.green_rows.specs.Buffer.{startsGreen, AllAtMost}
+use Rattle.lists.specs.Table.{table}
+use Rattle.bayer.specs.Parity.{startsGreen}
+use Rattle.lists.specs.Bound.{AllAtMost}
 use Rattle.green_rows.specs.Extended.{Lent}
-use Rattle.green_rows.proofs.TableLaws.{length-table}
-use Rattle.green_rows.proofs.PartLaws.{part-length, row-is}
-use Rattle.bayer.proofs.ViewLaws.{row-at-most}
-use Rattle.green_rows.proofs.ParityLaws.{starts-below}
+use Rattle.lists.proofs.TableLaws.{length-table}
+use Rattle.lists.proofs.PartLaws.{part-length, row-is}
+use Rattle.lists.proofs.BoundLaws.{row-at-most}
+use Rattle.bayer.proofs.ParityLaws.{starts-below}
 use Rattle.green_rows.proofs.GreenRow.{row-start, row-end}
 use Rattle.fill_rows.specs.Rows.{ownIn, otherIn, opposite}
 use Rattle.fill_rows.proofs.FillRowLaws.{own-row-is, other-row-is}

@@ -8,7 +8,7 @@ use native.Mathlib.Omega.{arith}
 use lib.Dec.{lit≤}
 use lib.IntN.{ℤ, pos}
 use lib.ListN.{length, getD, drop, length-drop}
-use lib.Seq.{length-take-le, getD-take, getD-drop}
+use lib.Seq.{length-take-le}
 use Rattle.whole.specs.Fraction.{natural, Within}
 use Rattle.bayer.specs.declared.colour.Colour.{Colour}
 use Rattle.bayer.specs.declared.colour.Colour.the-variants.{Red, Green, Blue}
@@ -16,23 +16,26 @@ use Rattle.bayer.specs.declared.frame.Frame.{Frame}
 use Rattle.bayer.specs.Colour.{colourAt}
 use Rattle.bayer.specs.Piece.{pieceStart, pieceOf}
 use Rattle.bayer.specs.Mirror.{mirror}
-use Rattle.bayer.specs.View.{rowOf}
+use Rattle.lists.proofs.PartLaws.{row-entry}
+use Rattle.lists.specs.Part.{rowOf, part, put}
 use Rattle.bayer.proofs.MirrorLaws.{mirror-inside}
-use Rattle.calls.specs.Calls.{Planes, stretch, put, Call, accepted, refused, Rows, Step, Runs, Covers, Covered, After}
+use Rattle.bayer.specs.Planes.{Planes, threePlanes}
+use Rattle.calls.specs.Calls.{Call, accepted, refused, Rows, Step, Runs, Covers, Covered, After}
 use Rattle.calls.proofs.CallList.{after-calls}
-use Rattle.gbtf.specs.Mosaic.{Mosaic, continued}
+use Rattle.bayer.specs.Mosaic.{Mosaic, continued}
 use Rattle.gbtf.specs.GreenAt.{greenAt}
 use Rattle.gbtf.specs.Weights.{scale, evenWeights}
 use Rattle.demosaic.specs.Sample.{otherFrom, sampleFrom, sample}
 use Rattle.demosaic.specs.Exact.{exactSample, printed}
 use Rattle.demosaic.proofs.SampleError.{printed-error}
 use Rattle.demosaic.proofs.FrameLocal.{piece-sample, piece-exactSample}
-use Rattle.strip.specs.Strip.{stripPlane, heldAfter, Promise, threePlanes}
+use Rattle.strip.specs.Strip.{stripPlane, Promise}
+use Rattle.bayer.specs.Refusal.{heldAfter}
 use Rattle.strip.specs.Demand.{StripCall, numberOf, Accepted, OfFrame, Called, CalledAll, CoveredBy, Demanded, Cited}
 use Rattle.strip.proofs.StripLaws.{Fits, fits, plane-length, plane-at, promised}
 
 abbrev lent : StripCall → Planes → Colour → List ℕ
-lent c p k = stretch (c .from k) (c .size k) (p k)
+lent c p k = part (c .from k) (c .size k) (p k)
 
 -- the calls, told apart
 abbrev callBy : ℕ → StripCall → Call
@@ -48,10 +51,6 @@ unfolding otherFrom greenAt
 own-colour K ws f m Red i j e = rw e
 own-colour K ws f m Green i j e = rw e
 own-colour K ws f m Blue i j e = rw e
-
-row-reading : (w r : ℕ) (l : List ℕ) (c : ℕ) → c < w → getD (rowOf w r l) c 0 ≡ getD l (r * w + c) 0
-unfolding rowOf
-row-reading w r l c h = getD-take w (drop (r * w) l) c 0 h ∙ getD-drop (r * w) l c 0
 
 module _ (f : Frame) (readings : List ℕ) where
   abbrev rule : Colour → ℕ → ℕ → ℕ
@@ -149,7 +148,7 @@ module _ (f : Frame) (readings : List ℕ) where
       col = mirror-inside (f .width) j hj
 
       read : (continued f 0 readings) .reading (pos i) (pos j) ≡ getD readings (i * f .width + j) 0
-      read = ap₂ (λ r c. getD (rowOf (f .width) r readings) c 0) (let e : mirror (f .height) (pos i) - 0 ≡ i = omega (arith, row) in e) col ∙ row-reading (f .width) i readings j hj
+      read = ap₂ (λ r c. getD (rowOf (f .width) r readings) c 0) (let e : mirror (f .height) (pos i) - 0 ≡ i = omega (arith, row) in e) col ∙ row-entry (f .width) i readings j hj
 
   pub demand-3 : (l : List StripCall) (p q : Planes) → ((k : Colour) → length (p k) ≡ f .width * f .height) → CalledAll f readings l p q → Demanded f readings l p q
   demand-3 l p q e h = record {

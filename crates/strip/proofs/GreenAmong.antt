@@ -3,7 +3,6 @@ use Prim.Native.Nat.{ℕ, _+_, _-_, _*_, _≤_, _<_}
 use mathlib.Core.Path.{_≡_, ap, _∙_}
 use mathlib.Core.List.{List}
 use native.Mathlib.Decide.{decLe}
-use native.Mathlib.Nat.{add-zero, one-mul}
 use native.Mathlib.Omega.{arith}
 use borrow.Author.Tests.{lt-ltb, le-ltb}
 use lib.IntN.{pos, subℕ, _+ℤ_, _-ℤ_}
@@ -11,16 +10,12 @@ use lib.ListN.{length}
 use Rattle.whole.proofs.Pairs.{subₚ, natₚ, _-ₚ_, eq-by}
 use Rattle.bayer.specs.declared.frame.Frame.{Frame}
 use Rattle.bayer.specs.Mirror.{mirror}
-use Rattle.bayer.specs.View.{rowOf}
+use Rattle.lists.specs.Part.{rowOf}
 use Rattle.bayer.proofs.MirrorLaws.{mirror-inside, mirror-above, mirror-below, mirror-from}
-use Rattle.green_rows.specs.Table.{joined}
-use Rattle.green_rows.proofs.TableLaws.{length-table, length-joined, joined-one, joined-rows}
+use Rattle.lists.specs.Table.{joined}
+use Rattle.lists.proofs.TableLaws.{length-table}
+use Rattle.lists.proofs.JoinedLaws.{length-joined, row-joined}
 use Rattle.strip.specs.Rows.{greenRow, GreensOf, amongGreens}
-
--- part i of parts of one length is its row i
-row-joined : (f : ℕ → List ℕ) (w : ℕ) → ((j : ℕ) → length (f j) ≡ w) → (n i : ℕ) → i < n → rowOf w i (joined f n) ≡ f i
-unfolding rowOf
-row-joined f w rows n i h = (rw one-mul at (joined-rows f w rows n i 1 (omega arith))) ∙ joined-one (λ k. f (i + k)) ∙ ap f (add-zero i)
 
 -- row v of the greens, by its place
 module _ (w a n : ℕ) (green above below : List ℕ) (v : ℕ) where

@@ -13,7 +13,7 @@ use Rattle.bayer.specs.declared.frame.Frame.{Frame}
 use Rattle.bayer.specs.Mirror.{mirror}
 use Rattle.bayer.specs.Piece.{pieceStart, pieceEnd, pieceRows}
 use Rattle.demosaic.proofs.FrameLocal.{in-piece}
-use Rattle.green_rows.specs.Buffer.{AllAtMost}
+use Rattle.lists.specs.Bound.{AllAtMost}
 use Rattle.green_rows.specs.Extended.{Lent}
 use Rattle.strip.specs.Rows.{Readable}
 use Rattle.strip.proofs.StripLaws.{Fits}

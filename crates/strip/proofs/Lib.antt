@@ -1,4 +1,3 @@
-pub mod AboveLaws
 pub mod GreenAmong
 pub mod ColourRow
 pub mod StripLaws

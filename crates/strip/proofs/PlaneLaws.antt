@@ -1,13 +1,13 @@
 -- The rows that are worked out are the planes that the contract names. Assumes nothing.
-use Prim.Native.Nat.{ℕ, zero, suc, _+_}
-use mathlib.Core.Path.{_≡_, refl, ap}
+use Prim.Native.Nat.{ℕ, _+_}
+use mathlib.Core.Path.{_≡_, ap}
 use mathlib.Core.List.{List}
 use Rattle.bayer.specs.declared.colour.Colour.the-variants.{Red, Green, Blue}
 use Rattle.bayer.specs.declared.frame.Frame.{Frame}
 use Rattle.bayer.specs.Piece.{pieceStart}
 use Rattle.demosaic.specs.Sample.{sample}
-use Rattle.green_rows.specs.Table.{joined}
-use Rattle.strip.specs.Strip.{stripPlane, heldAfter}
+use Rattle.lists.specs.Table.{joined}
+use Rattle.strip.specs.Strip.{stripPlane}
 use Rattle.strip.specs.Rows.{greenRow, colourRow}
 
 module _ (f : Frame) (a n : ℕ) (piece : List ℕ) (start : ℕ) (e : start ≡ pieceStart a) where
@@ -22,9 +22,3 @@ module _ (f : Frame) (a n : ℕ) (piece : List ℕ) (start : ℕ) (e : start ≡
   pub blue-plane : joined (λ i. colourRow f start piece Blue (a + i)) n ≡ stripPlane f a n piece Blue
   unfolding stripPlane sample
   blue-plane = ap (λ s. joined (λ i. colourRow f s piece Blue (a + i)) n) e
-
--- a refused call leaves what it was lent
-pub refused-holds : (number : ℕ) (delivered lent : List ℕ) → (number ≡ 0 → ⊥) → heldAfter number delivered lent ≡ lent
-unfolding heldAfter
-refused-holds zero delivered lent h = absurd (h refl)
-refused-holds (suc n) delivered lent h = refl

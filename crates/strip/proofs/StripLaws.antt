@@ -4,7 +4,7 @@ use mathlib.Core.Bool.{Bool, true, false, not, _||_}
 use mathlib.Core.List.{List, [], _∷_}
 use Prim.Native.Nat.{ℕ, zero, suc, _+_, _*_, _≤_, _<_}
 use native.Mathlib.Omega.{arith}
-use borrow.Author.Tests.{ltb-false}
+use borrow.Author.Tests.{ltb-false, not-false}
 use lib.Dec.{ltb, eqb, eqb→eq}
 use lib.ListN.{length, getD}
 use Rattle.bayer.specs.declared.colour.Colour.{Colour}
@@ -12,30 +12,24 @@ use Rattle.bayer.specs.declared.colour.Colour.the-variants.{Red, Green, Blue}
 use Rattle.bayer.specs.declared.frame.Frame.{Frame}
 use Rattle.bayer.specs.Condition.{outsideSizes}
 use Rattle.bayer.specs.Piece.{pieceStart, pieceRows, pieceOf}
-use Rattle.bayer.proofs.RefusalLaws.{off, neither}
+use Rattle.bayer.proofs.RefusalLaws.{off, size-fits}
+use Rattle.whole.proofs.Tests.{neither}
 use Rattle.gbtf.specs.Weights.{scale, evenWeights}
 use Rattle.demosaic.specs.Sample.{sample}
 use Rattle.demosaic.proofs.SampleRange.{sample-range}
 use Rattle.demosaic.proofs.FrameLocal.{piece-sample}
-use Rattle.green_rows.specs.Table.{table}
-use Rattle.green_rows.proofs.TableLaws.{length-table, getD-table, table-same, table-all, length-joined, getD-joined, joined-same}
-use Rattle.green_rows.proofs.BoundLaws.{all-joined}
-use Rattle.strip.specs.Strip.{anyAbove, stripNumber, stripPlane, frameRows, heldAfter, Promise}
+use Rattle.lists.specs.Table.{table}
+use Rattle.lists.proofs.TableLaws.{length-table, getD-table, table-same, table-all}
+use Rattle.lists.proofs.JoinedLaws.{length-joined, getD-joined, joined-same}
+use Rattle.lists.proofs.BoundLaws.{all-joined}
+use Rattle.lists.proofs.AboveLaws.{none-above}
+use Rattle.strip.specs.Strip.{stripNumber, stripPlane, frameRows, Promise}
+use Rattle.bayer.specs.Refusal.{heldAfter}
 
 -- ---- tests
 
-not-false : (b : Bool) → not b ≡ false → b ≡ true
-not-false true e = refl
-not-false false e = sym e
-
 same-number : (m n : ℕ) → not (eqb m n) ≡ false → m ≡ n
 same-number m n e = eqb→eq m n (rw (not-false (eqb m n) e) tt)
-
-none-above : (m : ℕ) (l : List ℕ) → anyAbove m l ≡ false → (n : ℕ) → getD l n 0 ≤ m
-unfolding anyAbove
-none-above m [] e n = omega arith
-none-above m (x ∷ l) e zero = let p = neither (ltb m x) (anyAbove m l) e in ltb-false m x (p .0)
-none-above m (x ∷ l) e (suc n) = let p = neither (ltb m x) (anyAbove m l) e in none-above m l (p .1) n
 
 -- ---- an accepted call
 
@@ -52,9 +46,6 @@ pub record Fits (f : Frame) (a n : ℕ) (piece : List ℕ) (red green blue : ℕ
   pub greens : green ≡ n * f .width
   pub blues : blue ≡ n * f .width
   pub range : (i : ℕ) → getD piece i 0 ≤ 4095
-
-pub size-fits : (n : ℕ) → outsideSizes n ≡ false → (8 ≤ n) × (n ≤ 4096)
-size-fits n e = let p = neither (ltb n 8) (ltb 4096 n) e in (ltb-false n 8 (p .0), ltb-false 4096 n (p .1))
 
 positive : (n : ℕ) → eqb n 0 ≡ false → 0 < n
 positive zero e = absurd (let z : _≡_ {A = Bool} true false = e in clash z)

@@ -11,12 +11,13 @@ use Rattle.bayer.specs.declared.colour.Colour.the-variants.{Red, Green, Blue}
 use Rattle.bayer.specs.declared.frame.Frame.{Frame}
 use Rattle.bayer.specs.Colour.{colourAt}
 use Rattle.bayer.specs.Piece.{pieceOf}
-use Rattle.calls.specs.Calls.{Planes, stretch, put}
+use Rattle.bayer.specs.Planes.{Planes}
+use Rattle.lists.specs.Part.{part, put}
 use Rattle.gbtf.specs.Weights.{evenWeights}
 use Rattle.demosaic.specs.Exact.{exactSample, printed}
 use Rattle.strip.specs.Strip.{stripNumber, Promise}
 
--- a call: what it names, the piece it brings, and the stretch of each plane that it is lent
+-- a call: what it names, the piece it brings, and the part of each plane that it is lent
 pub record StripCall : Type 0 where
   pub frame : Frame
   pub first : ℕ
@@ -43,7 +44,7 @@ pub record Called (f : Frame) (readings : List ℕ) (c : StripCall) (p q : Plane
   pub inside : (k : Colour) → c .from k + c .size k ≤ length (p k)
   pub answer : ℕ
   pub after : Planes
-  pub promise : Promise (c .frame) (c .first) (c .count) (c .piece) (λ k. stretch (c .from k) (c .size k) (p k)) answer after
+  pub promise : Promise (c .frame) (c .first) (c .count) (c .piece) (λ k. part (c .from k) (c .size k) (p k)) answer after
   pub rest : (k : Colour) → q k ≡ put (c .from k) (after k) (p k)
 
 -- a list of calls, each of which finds what the one before it left

@@ -8,13 +8,13 @@ use lib.IntN.{ℤ, pos}
 use lib.ListN.{length}
 use Rattle.bayer.specs.declared.colour.Colour.{Colour}
 use Rattle.bayer.specs.declared.frame.Frame.{Frame}
-use Rattle.bayer.specs.View.{rowOf}
-use Rattle.gbtf.specs.Mosaic.{continued}
+use Rattle.lists.specs.Part.{rowOf}
+use Rattle.bayer.specs.Mosaic.{continued}
 use Rattle.gbtf.specs.GreenAt.{greenAt}
 use Rattle.gbtf.specs.Weights.{scale, evenWeights}
 use Rattle.demosaic.specs.Sample.{otherFrom}
-use Rattle.green_rows.specs.Table.{table, joined}
-use Rattle.green_rows.specs.Buffer.{AllAtMost}
+use Rattle.lists.specs.Table.{table, joined}
+use Rattle.lists.specs.Bound.{AllAtMost}
 use Rattle.green_rows.specs.Extended.{Lent}
 
 -- the greens of a frame whose rows from row `first` on are lent

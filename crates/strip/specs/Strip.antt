@@ -1,7 +1,7 @@
 -- A strip call: the number it answers, and what it leaves in the three planes it was lent. Assumes nothing.
-use Prim.Native.Nat.{ℕ, zero, suc, _+_, _*_}
+use Prim.Native.Nat.{ℕ, _+_, _*_}
 use mathlib.Core.Path.{_≡_}
-use mathlib.Core.Bool.{Bool, false, not, _||_}
+use mathlib.Core.Bool.{not, _||_}
 use mathlib.Core.List.{List, [], _∷_, _++_}
 use lib.Dec.{ltb, eqb}
 use lib.ListN.{length}
@@ -10,15 +10,11 @@ use Rattle.bayer.specs.declared.colour.Colour.the-variants.{Red, Green, Blue}
 use Rattle.bayer.specs.declared.frame.Frame.{Frame}
 use Rattle.bayer.specs.Condition.{frameCases}
 use Rattle.bayer.specs.Piece.{pieceStart, pieceRows}
-use Rattle.bayer.specs.Refusal.{Case, _when_, rowsOutsideFrame, wrongPieceLength, wrongPlaneLength, readingOutOfRange, firstOf}
+use Rattle.bayer.specs.Refusal.{Case, _when_, rowsOutsideFrame, wrongPieceLength, wrongPlaneLength, readingOutOfRange, firstOf, heldAfter}
 use Rattle.gbtf.specs.Weights.{scale, evenWeights}
 use Rattle.demosaic.specs.Sample.{sample}
-use Rattle.green_rows.specs.Table.{table, joined}
-
--- some reading is above m
-unfoldable pub anyAbove : (m : ℕ) → List ℕ → Bool
-anyAbove m [] = false
-anyAbove m (x ∷ l) = ltb m x || anyAbove m l
+use Rattle.lists.specs.Table.{table, joined}
+use Rattle.lists.specs.Bound.{anyAbove}
 
 -- 3 to 6, of a call that names f, a and n, and is lent a piece of the mosaic and planes of these lengths
 abbrev pub callCases : Frame → (a n : ℕ) (piece : List ℕ) (red green blue : ℕ) → List Case
@@ -40,16 +36,6 @@ stripPlane f a n piece k = joined (λ i. table (λ j. sample scale evenWeights f
 -- those rows of the whole frame
 abbrev pub frameRows : Frame → (readings : List ℕ) (a n : ℕ) (k : Colour) → List ℕ
 frameRows f readings a n k = joined (λ i. table (λ j. sample scale evenWeights f 0 readings k (a + i) j) (f .width)) n
-
--- what a lent plane holds after a call of this number: accepted, the samples delivered; refused, what it held
-unfoldable pub heldAfter : (number : ℕ) (delivered lent : List ℕ) → List ℕ
-heldAfter zero delivered lent = delivered
-heldAfter (suc n) delivered lent = lent
-
-abbrev pub threePlanes : (red green blue : List ℕ) → Colour → List ℕ
-threePlanes red green blue Red = red
-threePlanes red green blue Green = green
-threePlanes red green blue Blue = blue
 
 -- THE CONTRACT of a strip call, which its code is proved to keep: its answer, and the planes lent to it as they are afterwards
 pub record Promise (f : Frame) (a n : ℕ) (piece : List ℕ) (lent : Colour → List ℕ) (answer : ℕ) (after : Colour → List ℕ) : Type 0 where

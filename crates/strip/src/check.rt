@@ -1,31 +1,16 @@
 ghost use mathlib.Core.Path.{_≡_};
 ghost use mathlib.Core.Bool.{not, _||_};
-ghost use Prim.Native.Nat.{_+_};
-ghost use lib.Dec.{ltb, eqb};
-ghost use Rattle.strip.specs.Strip.{anyAbove, stripNumber};
+ghost use lib.Dec.{eqb};
+ghost use Rattle.strip.specs.Strip.{stripNumber};
 use bayer::check::frame_check;
+use bayer::check::rows_outside;
 use bayer::frame::Frame;
 use bayer::piece::piece_rows;
 use bayer::refusal::READING_OUT_OF_RANGE;
 use bayer::refusal::ROWS_OUTSIDE_FRAME;
 use bayer::refusal::WRONG_PIECE_LENGTH;
 use bayer::refusal::WRONG_PLANE_LENGTH;
-
-// Whether a strip has no row, or runs past the frame. The sum of a and n could wrap; the difference does not.
-fn rows_outside(h: usize, a: usize, n: usize) -> bool
-    ensures { λ r. ⌜ r ≡ (eqb n 0 || ltb h (a + n)) ⌝ }
-{
-    if n == 0 {
-        return true;
-    }
-    if h < n {
-        return true;
-    }
-    if h - n < a {
-        return true;
-    }
-    false
-}
+use lists::above::any_above;
 
 // Whether one of the planes is not so long.
 fn planes_misfit(size: usize, red: usize, green: usize, blue: usize) -> bool
@@ -38,20 +23,6 @@ fn planes_misfit(size: usize, red: usize, green: usize, blue: usize) -> bool
         return true;
     }
     blue != size
-}
-
-// Whether some reading is above 4095.
-fn over_range(piece: &[u16]) -> bool
-    ensures { λ r. ⌜ r ≡ anyAbove 4095 (now (piece .entry)) ⌝ }
-{
-    let mut i = 0;
-    while i < piece.len() {
-        if 4095 < piece[i] {
-            return true;
-        }
-        i += 1;
-    }
-    false
 }
 
 // The number of a strip call: 0, or its refusal. Refusal 6 comes last, as it reads the piece. Nothing is written.
@@ -83,7 +54,7 @@ pub fn strip_check(
     if planes_misfit(size, red, green, blue) {
         return WRONG_PLANE_LENGTH;
     }
-    if over_range(piece) {
+    if any_above(4095, piece) {
         return READING_OUT_OF_RANGE;
     }
     0

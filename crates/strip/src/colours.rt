@@ -6,17 +6,17 @@ ghost use lib.ListN.{length};
 ghost use Rattle.bayer.specs.declared.colour.Colour.the-variants.{Green};
 ghost use Rattle.bayer.specs.Colour.{same};
 ghost use Rattle.bayer.specs.Mirror.{mirror};
-ghost use Rattle.green_rows.specs.Table.{joined};
-ghost use Rattle.green_rows.specs.Buffer.{AllAtMost};
+ghost use Rattle.lists.specs.Table.{joined};
+ghost use Rattle.lists.specs.Bound.{AllAtMost};
 ghost use Rattle.green_rows.specs.Extended.{Lent};
 ghost use Rattle.strip.specs.Rows.{greenRow, colourRow, GreensOf, amongGreens};
 use bayer::colour::Colour;
 use bayer::colour::partner;
 use bayer::frame::Frame;
 use bayer::mirror::mirror;
+use bayer::parity::starts_green;
 use fill_rows::rows::other_row;
 use fill_rows::rows::own_row;
-use green_rows::parity::starts_green;
 
 // Row v of the greens of rows a to a + n - 1 and of those above and below them.
 fn green_of<'a>(

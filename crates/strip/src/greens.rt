@@ -1,7 +1,7 @@
 ghost use mathlib.Core.Path.{_≡_};
 ghost use Prim.Native.Nat.{ℕ, _+_, _*_, _≤_, _<_};
 ghost use lib.ListN.{length};
-ghost use Rattle.green_rows.specs.Buffer.{AllAtMost};
+ghost use Rattle.lists.specs.Bound.{AllAtMost};
 ghost use Rattle.green_rows.specs.Extended.{Lent};
 ghost use Rattle.strip.specs.Rows.{Readable, Beside, GreensOf};
 use bayer::frame::Frame;

@@ -1,7 +1,8 @@
 ghost use mathlib.Core.Path.{_≡_};
 ghost use lib.ListN.{length};
 ghost use Rattle.bayer.specs.declared.colour.Colour.the-variants.{Red, Green, Blue};
-ghost use Rattle.strip.specs.Strip.{stripNumber, stripPlane, Promise, threePlanes};
+ghost use Rattle.strip.specs.Strip.{stripNumber, stripPlane, Promise};
+ghost use Rattle.bayer.specs.Planes.{threePlanes};
 use crate::check::strip_check;
 use crate::colours::colour_rows;
 use crate::greens::greens;

@@ -6,4 +6,3 @@ pub mod FloorLaws
 pub mod Signed
 pub mod FractionLaws
 pub mod Distance
-pub mod Lists

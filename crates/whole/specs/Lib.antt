@@ -2,4 +2,3 @@ pub mod Parts
 pub mod Floor
 pub mod Clamp
 pub mod Fraction
-pub mod Lists

@@ -10,7 +10,7 @@ partner-view-check-requires : tie.Need-partner-view-check-requires
 partner-view-check-requires c κs = search needs
 
 returns : tie.Need-returns
-returns c = rw (← c .before .new .ensures .0, ← c .before .new .ensures .1, ← c .before .new .ensures .2) (c .partner-view-check .ensures)
+returns c = rw (← c .before .new .ensures) (c .partner-view-check .ensures)
 
 pub rokzimp-partner-view-check-spec : {M : Type 1} → statement M
 rokzimp-partner-view-check-spec = tie.close (tie.spec new-requires partner-view-check-requires returns)

@@ -12,7 +12,7 @@ partner-view-requires : tie.Need-partner-view-requires
 partner-view-requires c κs = search needs
 
 returns : tie.Need-returns
-returns c = rw (← c .before .new .ensures .0, ← c .before .new .ensures .1, ← c .before .new .ensures .2) (ap length (c .partner-view .ensures .0))
+returns c = rw (c .before .new .ensures) at (ap length (c .partner-view .ensures .0))
 
 pub rokzimp-partner-view-length-spec : {M : Type 1} → statement M
 rokzimp-partner-view-length-spec = tie.close (tie.spec new-requires partner-view-requires returns)

@@ -10,7 +10,7 @@ strip-check-requires : tie.Need-strip-check-requires
 strip-check-requires c κs = search needs
 
 returns : tie.Need-returns
-returns c = rw (← c .before .new .ensures .0, ← c .before .new .ensures .1, ← c .before .new .ensures .2) (c .strip-check .ensures)
+returns c = rw (← c .before .new .ensures) (c .strip-check .ensures)
 
 pub rokzimp-strip-check-spec : {M : Type 1} → statement M
 rokzimp-strip-check-spec = tie.close (tie.spec new-requires strip-check-requires returns)

@@ -3,7 +3,7 @@ use Prim.Native.Nat.{_+_, _-_, _≤_}
 use native.Mathlib.Omega.{arith}
 use mathlib.Core.Path.{_≡_}
 use lib.ListN.{length, length-set}
-use Rattle.green_rows.proofs.TableLaws.{Filled, table-turn}
+use Rattle.lists.proofs.TableLaws.{Filled, table-turn}
 use Rattle.fill_rows.specs.Rows.{ownIn}
 use Rattle.fill_rows.proofs.SideLaws.{before-inside, after-inside}
 use Rattle.fill_rows.proofs.EndLaws.{first-stored, last-stored}

@@ -4,7 +4,7 @@ use mathlib.Core.Path.{_≡_, ap, _∙_}
 use native.Mathlib.Omega.{arith}
 use borrow.Author.Needs.{needs}
 use Rattle.bayer.specs.declared.frame.Frame.{Frame}
-use Rattle.strip.specs.Strip.{threePlanes}
+use Rattle.bayer.specs.Planes.{threePlanes}
 use Rattle.frame_file.specs.Text.{refusalLine}
 use Rattle.frame_file.specs.FrameFile.{frameOf, lines, output}
 use Rattle.frame_file.proofs.FileLaws.{sized, readings-are}

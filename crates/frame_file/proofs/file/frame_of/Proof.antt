@@ -1,7 +1,8 @@
 -- `frame_file::file::frame_of` meets its contract. Assumes nothing.
-use mathlib.Core.Path.{_∙_}
+use mathlib.Core.Path.{ap₂, _∙_}
+use lib.ListN.{getD}
 use borrow.Author.Needs.{needs}
-use Rattle.frame_file.proofs.FileLaws.{frame-is}
+use Rattle.bayer.specs.Frame.{frame}
 use Rattle.frame_file.proofs.file.frame_of.Statement.{statement}
 use Rattle.frame_file.proofs.file.frame_of.Tie as tie
 
@@ -24,7 +25,7 @@ new-requires : tie.Need-new-requires
 new-requires c κs = search needs
 
 returns : tie.Need-returns
-returns c = let e = c .new .ensures in frame-is (c .new .result) (e .0 ∙ c .before .before .before .two-bytes .ensures) (e .1 ∙ c .before .before .two-bytes2 .ensures) (e .2)
+returns c = c .new .ensures ∙ ap₂ (λ w h. frame w h (getD (c .before .before .before .before .before .args .bytes .now) 9 0)) (c .before .before .before .two-bytes .ensures) (c .before .before .two-bytes2 .ensures)
 
 pub frame-of-spec : {M : Type 1} → statement M
 frame-of-spec =

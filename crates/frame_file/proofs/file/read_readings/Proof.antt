@@ -3,7 +3,7 @@ use Prim.Native.Nat.{_+_, _*_, _-_, _≤_}
 use mathlib.Core.Path.{refl, _∙_}
 use native.Mathlib.Omega.{arith}
 use lib.ListN.{length}
-use Rattle.green_rows.proofs.TableLaws.{Filled, table-none, table-turn, table-done}
+use Rattle.lists.proofs.TableLaws.{Filled, table-none, table-turn, table-done}
 use Rattle.frame_file.specs.FrameFile.{bigEndian}
 use Rattle.frame_file.proofs.file.read_readings.Statement.{statement}
 use Rattle.frame_file.proofs.file.read_readings.Tie as tie

@@ -8,8 +8,7 @@ use lib.Signed.{mag}
 use mir.Syntax.{w32, w64}
 use Rattle.whole.specs.Parts.{up, down}
 use Rattle.whole.proofs.Pairs.{anyₚ, _-ₚ_, within-by}
-use Rattle.whole.proofs.Signed.{E, widened, _⊖_, asked, value}
-use Rattle.whole.proofs.Signed.{wide-cast}
+use Rattle.whole.proofs.Signed.{E, widened, _⊖_, asked, value, wide-cast}
 use Rattle.gbtf.specs.Difference.{gradient}
 use borrow.Author.Needs.{needs}
 use Rattle.gbtf.proofs.difference.gradient.Statement.{statement}

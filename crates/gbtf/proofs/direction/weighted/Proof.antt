@@ -2,8 +2,7 @@
 use native.Mathlib.Omega.{arith}
 use lib.Dec.{lit<}
 use mir.Syntax.{w32, w64}
-use Rattle.whole.proofs.Signed.{E, nat, widened, _⊗_, asked, value}
-use Rattle.whole.proofs.Signed.{wide-cast, bounded}
+use Rattle.whole.proofs.Signed.{E, nat, widened, _⊗_, asked, value, wide-cast, bounded}
 use borrow.Author.Needs.{needs}
 use Rattle.gbtf.proofs.direction.weighted.Statement.{statement}
 use Rattle.gbtf.proofs.direction.weighted.Tie as tie

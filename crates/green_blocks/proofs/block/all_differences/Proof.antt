@@ -5,10 +5,11 @@ use mathlib.Core.List.{List, _++_}
 use mathlib.Core.Path.{_≡_, ap, _∙_}
 use lib.IntN.{ℤ}
 use lib.ListN.{length, take, drop}
-use Rattle.green_rows.specs.Table.{table, part}
+use Rattle.lists.specs.Table.{table}
+use Rattle.lists.specs.Part.{part}
 use Rattle.green_rows.specs.Buffer.{differenceIn}
-use Rattle.green_rows.proofs.TableLaws.{length-table}
-use Rattle.green_rows.proofs.PartLaws.{put-rest}
+use Rattle.lists.proofs.TableLaws.{length-table}
+use Rattle.lists.proofs.PartLaws.{put-rest}
 use Rattle.green_blocks.proofs.block.all_differences.Statement.{statement}
 use Rattle.green_blocks.proofs.block.all_differences.Tie as tie
 

@@ -7,12 +7,13 @@ use mathlib.Core.Path.{_≡_, refl, _∙_}
 use lib.IntN.{ℤ, pos, natAbs}
 use lib.ListN.{length, take, drop}
 use Rattle.gbtf.specs.Weights.{scale, evenWeights}
-use Rattle.green_rows.specs.Table.{table}
+use Rattle.lists.specs.Table.{table}
 use Rattle.green_rows.specs.Buffer.{greenIn}
 use Rattle.green_blocks.specs.Block.{greenRowIn}
-use Rattle.green_rows.proofs.TableLaws.{length-table, part-within, Handed, joined-none, joined-turn, joined-done}
-use Rattle.green_rows.proofs.PartLaws.{part-length, row-is}
-use Rattle.whole.proofs.Lists.{all-part}
+use Rattle.lists.proofs.TableLaws.{length-table}
+use Rattle.lists.proofs.JoinedLaws.{part-within, Handed, joined-none, joined-turn, joined-done}
+use Rattle.lists.proofs.PartLaws.{part-length, row-is}
+use Rattle.lists.proofs.BoundLaws.{all-part}
 use Rattle.green_blocks.proofs.block.fuse_rows.Statement.{statement}
 use Rattle.green_blocks.proofs.block.fuse_rows.Tie as tie
 

@@ -2,7 +2,7 @@
 use Prim.Native.Nat.{_*_, _≤_}
 use native.Mathlib.Nat.{mul-le-mul}
 use native.Mathlib.Omega.{arith}
-use Rattle.green_rows.proofs.ParityLaws.{starts-below}
+use Rattle.bayer.proofs.ParityLaws.{starts-below}
 use Rattle.green_blocks.proofs.GreenBlock.{Block, gradients-length, block-start, block-end, block-fused, ready}
 use Rattle.green_blocks.proofs.block.green_block.Statement.{statement}
 use Rattle.green_blocks.proofs.block.green_block.Tie as tie

@@ -7,13 +7,14 @@ use mathlib.Core.Path.{_≡_, refl, ap, subst, _∙_}
 use lib.IntN.{pos}
 use lib.ListN.{length}
 use Rattle.bayer.specs.declared.frame.Frame.{Frame}
-use Rattle.gbtf.specs.Mosaic.{continued}
+use Rattle.bayer.specs.Mosaic.{continued}
 use Rattle.gbtf.specs.GreenAt.{greenAt}
-use Rattle.green_rows.specs.Table.{table, joined}
+use Rattle.lists.specs.Table.{table, joined}
 use Rattle.green_rows.specs.Extended.{Lent}
 use Rattle.gbtf.specs.Weights.{scale, evenWeights}
-use Rattle.green_rows.proofs.TableLaws.{length-table, joined-same, Handed, joined-none, joined-turns, joined-done}
-use Rattle.green_rows.proofs.PartLaws.{part-length}
+use Rattle.lists.proofs.TableLaws.{length-table}
+use Rattle.lists.proofs.JoinedLaws.{joined-same, Handed, joined-none, joined-turns, joined-done}
+use Rattle.lists.proofs.PartLaws.{part-length}
 use Rattle.green_blocks.proofs.rows.green_rows.Statement.{statement}
 use Rattle.green_blocks.proofs.rows.green_rows.Tie as tie
 

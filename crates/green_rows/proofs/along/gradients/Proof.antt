@@ -5,7 +5,7 @@ use mathlib.Core.Path.{refl, ap₂, _∙_}
 use lib.ListN.{length}
 use Rattle.gbtf.specs.Difference.{gradient}
 use Rattle.green_rows.specs.Buffer.{gradientIn}
-use Rattle.green_rows.proofs.TableLaws.{Filled, table-none, table-turn, table-done}
+use Rattle.lists.proofs.TableLaws.{Filled, table-none, table-turn, table-done}
 use Rattle.green_rows.proofs.ReadLaws.{read-at}
 use Rattle.green_rows.proofs.along.gradients.Statement.{statement}
 use Rattle.green_rows.proofs.along.gradients.Tie as tie

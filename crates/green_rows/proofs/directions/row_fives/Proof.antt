@@ -4,7 +4,7 @@ use mathlib.Core.Path.{_≡_}
 use lib.Dec.{lit≤}
 use Rattle.gbtf.specs.Weights.{evenWeights}
 use Rattle.green_rows.specs.Directions.{fiveIn, reversed}
-use Rattle.green_rows.proofs.TableLaws.{four-parts}
+use Rattle.lists.proofs.JoinedLaws.{four-parts}
 use Rattle.green_rows.proofs.DirectionLaws.{five-after, five-before}
 use borrow.Author.Needs.{needs}
 use Rattle.green_rows.proofs.directions.row_fives.Statement.{statement}

@@ -3,7 +3,7 @@ use Prim.Native.Nat.{_-_, _≤_}
 use native.Mathlib.Omega.{arith}
 use mathlib.Core.Path.{refl, _∙_}
 use lib.ListN.{length, getD}
-use Rattle.green_rows.proofs.TableLaws.{Filled, table-none, table-turn, table-done, table-getD}
+use Rattle.lists.proofs.TableLaws.{Filled, table-none, table-turn, table-done, table-getD}
 use Rattle.green_rows.proofs.extend.copy.Statement.{statement}
 use Rattle.green_rows.proofs.extend.copy.Tie as tie
 

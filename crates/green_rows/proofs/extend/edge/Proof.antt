@@ -8,7 +8,7 @@ use lib.ListN.{length, getD}
 use Rattle.bayer.specs.Mirror.{mirror}
 use Rattle.bayer.proofs.MirrorLaws.{mirror-inside, mirror-above, mirror-below, mirror-from}
 use Rattle.green_rows.specs.Extended.{column}
-use Rattle.green_rows.proofs.TableLaws.{Filled, table-none, table-turn, table-done}
+use Rattle.lists.proofs.TableLaws.{Filled, table-none, table-turn, table-done}
 use Rattle.green_rows.proofs.extend.edge.Statement.{statement}
 use Rattle.green_rows.proofs.extend.edge.Tie as tie
 

@@ -5,7 +5,7 @@ use mathlib.Core.Path.{refl, _∙_}
 use lib.ListN.{length}
 use Rattle.gbtf.specs.Weights.{scale}
 use Rattle.green_rows.specs.Buffer.{greenFrom}
-use Rattle.green_rows.proofs.TableLaws.{Filled, table-none, table-turn, table-done}
+use Rattle.lists.proofs.TableLaws.{Filled, table-none, table-turn, table-done}
 use Rattle.green_rows.proofs.fuse.fuse_row.Statement.{statement}
 use Rattle.green_rows.proofs.fuse.fuse_row.Tie as tie
 

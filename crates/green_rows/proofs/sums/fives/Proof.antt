@@ -7,7 +7,7 @@ use mir.Syntax.{w32}
 use Rattle.whole.proofs.Signed.{read-result}
 use Rattle.gbtf.specs.Direction.{fiveSum}
 use Rattle.green_rows.specs.Directions.{after}
-use Rattle.green_rows.proofs.TableLaws.{Filled, table-none, table-turn, table-done}
+use Rattle.lists.proofs.TableLaws.{Filled, table-none, table-turn, table-done}
 use Rattle.green_rows.proofs.sums.fives.Statement.{statement}
 use Rattle.green_rows.proofs.sums.fives.Tie as tie
 

@@ -10,9 +10,10 @@ use lib.Dec.{ltb, eqb}
 use Rattle.bayer.specs.Condition.{frameCases}
 use Rattle.bayer.specs.Piece.{pieceRows}
 use Rattle.bayer.specs.Refusal.{firstOf}
-use Rattle.bayer.proofs.RefusalLaws.{off, later, sooner, neither}
-use Rattle.strip.specs.Strip.{anyAbove, callCases, stripNumber}
-use Rattle.strip.proofs.StripLaws.{size-fits}
+use Rattle.bayer.proofs.RefusalLaws.{off, later, sooner, size-fits}
+use Rattle.whole.proofs.Tests.{neither}
+use Rattle.lists.specs.Bound.{anyAbove}
+use Rattle.strip.specs.Strip.{callCases, stripNumber}
 use Rattle.strip.proofs.check.strip_check.Statement.{statement}
 use Rattle.strip.proofs.check.strip_check.Tie as tie
 
@@ -32,7 +33,7 @@ passed : (c : tie.Else1) → let a = c .before .before .before .args in
 unfolding stripNumber
 passed c =
     let a = c .before .before .before .args in
-    later (frameCases (a .frame)) (callCases (a .frame) (a .a) (a .n) (a .piece .now) (a .red) (a .green) (a .blue)) (off (frameCases (a .frame)) (zero c))
+    later (frameCases (a .frame)) (callCases (a .frame) (a .a) (a .n) (a .piece .now) (a .red) (a .green) (a .blue)) (zero c)
 
 sizes : (c : tie.Else1) → (c .before .before .before .args .frame .width ≤ 4096) × (c .before .before .before .args .frame .height ≤ 4096)
 sizes c =
@@ -90,14 +91,14 @@ planes-misfit-requires c κs = search needs
 returns-4 : tie.Need-returns-4
 returns-4 c = rw (fits (c .before .before), sym (c .before .planes-misfit .ensures) ∙ c .if4 .taken)
 
-over-range-requires : tie.Need-over-range-requires
-over-range-requires c κs = search needs
+any-above-requires : tie.Need-any-above-requires
+any-above-requires c κs = search needs
 
 returns-5 : tie.Need-returns-5
-returns-5 c = rw (fits (c .before .before .before .before), sym (c .before .before .before .planes-misfit .ensures) ∙ c .before .before .if4 .left, sym (c .before .over-range .ensures) ∙ c .if5 .taken)
+returns-5 c = rw (fits (c .before .before .before .before), sym (c .before .before .before .planes-misfit .ensures) ∙ c .before .before .if4 .left, sym (c .before .any-above .ensures) ∙ c .if5 .taken)
 
 returns-6 : tie.Need-returns-6
-returns-6 c = rw (fits (c .before .before .before .before), sym (c .before .before .before .planes-misfit .ensures) ∙ c .before .before .if4 .left, sym (c .before .over-range .ensures) ∙ c .if5 .left)
+returns-6 c = rw (fits (c .before .before .before .before), sym (c .before .before .before .planes-misfit .ensures) ∙ c .before .before .if4 .left, sym (c .before .any-above .ensures) ∙ c .if5 .left)
 
 pub strip-check-spec : {M : Type 1} → statement M
 strip-check-spec =
@@ -113,6 +114,6 @@ strip-check-spec =
     mul-size
     planes-misfit-requires
     returns-4
-    over-range-requires
+    any-above-requires
     returns-5
     returns-6)

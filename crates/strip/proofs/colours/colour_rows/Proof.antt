@@ -8,8 +8,9 @@ use lib.ListN.{length}
 use borrow.Author.Needs.{needs}
 use Rattle.bayer.specs.declared.colour.Colour.{Colour}
 use Rattle.bayer.specs.declared.frame.Frame.{Frame}
-use Rattle.green_rows.proofs.TableLaws.{length-table, part-within, Handed, joined-none, joined-turn, joined-done}
-use Rattle.green_rows.proofs.PartLaws.{part-length}
+use Rattle.lists.proofs.TableLaws.{length-table}
+use Rattle.lists.proofs.JoinedLaws.{part-within, Handed, joined-none, joined-turn, joined-done}
+use Rattle.lists.proofs.PartLaws.{part-length}
 use Rattle.strip.specs.Rows.{colourRow}
 use Rattle.strip.proofs.GreenAmong.{green-length, among-above, among-here, among-below}
 use Rattle.strip.proofs.colours.colour_rows.Statement.{statement}

@@ -5,8 +5,8 @@ use native.Mathlib.Nat.{mul-le-mul}
 use native.Mathlib.Omega.{arith}
 use lib.ListN.{length}
 use borrow.Author.Needs.{needs}
-use Rattle.green_rows.proofs.TableLaws.{part-within}
-use Rattle.green_rows.proofs.PartLaws.{row-is}
+use Rattle.lists.proofs.JoinedLaws.{part-within}
+use Rattle.lists.proofs.PartLaws.{row-is}
 use Rattle.strip.proofs.GreenAmong.{among-first, among-inner, among-last}
 use Rattle.strip.proofs.colours.green_of.Statement.{statement}
 use Rattle.strip.proofs.colours.green_of.Tie as tie

@@ -2,7 +2,7 @@
 use Prim.Native.Nat.{_+_, _-_}
 use mathlib.Core.Path.{_≡_, ap, _∙_}
 use native.Mathlib.Omega.{arith}
-use Rattle.green_rows.proofs.TableLaws.{joined-one}
+use Rattle.lists.proofs.JoinedLaws.{joined-one}
 use Rattle.strip.specs.Rows.{greenRow}
 use borrow.Author.Needs.{needs}
 use Rattle.strip.proofs.greens.green_beside.Statement.{statement}

@@ -1,8 +1,8 @@
 -- `strip::strip::strip` meets its contract. Assumes nothing.
 use native.Mathlib.Omega.{arith}
 use mathlib.Core.Path.{_≡_, sym, _∙_}
-use Rattle.strip.specs.Strip.{heldAfter}
-use Rattle.strip.proofs.PlaneLaws.{refused-holds}
+use Rattle.bayer.specs.Refusal.{heldAfter}
+use Rattle.bayer.proofs.RefusalLaws.{refused-holds}
 use borrow.Author.Needs.{needs}
 use Rattle.strip.proofs.strip.strip.Statement.{statement}
 use Rattle.strip.proofs.strip.strip.Tie as tie

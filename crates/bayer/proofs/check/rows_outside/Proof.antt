@@ -1,9 +1,9 @@
--- `strip::check::rows_outside` meets its contract: a + n is above h where n is, or where a is above h − n. Assumes nothing.
+-- `bayer::check::rows_outside` meets its contract: a + n is above h where n is, or where a is above h − n. Assumes nothing.
 use Prim.Native.Nat.{_+_}
 use native.Mathlib.Omega.{arith}
 use borrow.Author.Tests.{lt-ltb, le-ltb, eq-eqb, ne-eqb}
-use Rattle.strip.proofs.check.rows_outside.Statement.{statement}
-use Rattle.strip.proofs.check.rows_outside.Tie as tie
+use Rattle.bayer.proofs.check.rows_outside.Statement.{statement}
+use Rattle.bayer.proofs.check.rows_outside.Tie as tie
 
 returns : tie.Need-returns
 returns c = rw (eq-eqb _ _ (c .if1 .taken))

@@ -1,87 +1,19 @@
--- Laws of lists that are given by a rule, for loops that fill a slice from the front, entry by entry or part by part. Assumes nothing.
+-- Laws of lists that are joined from parts, for loops that fill a slice from the front, part by part. Assumes nothing.
 use Prim.Native.Nat.{ℕ, zero, suc, _+_, _-_, _*_, _≤_, _<_}
-use mathlib.Core.Path.{_≡_, refl, sym, subst, ap, ap₂, _∙_}
-use mathlib.Core.List.{List, [], _∷_, _++_, append-assoc, append-nil}
+use mathlib.Core.Path.{_≡_, refl, sym, ap, ap₂, _∙_}
+use mathlib.Core.List.{List, _++_, append-assoc, append-nil}
 use native.Mathlib.Decide.{decLe}
 use native.Mathlib.Nat.{add-zero, add-suc, suc-mul, add-mul, not-suc-le-zero, zero-mul, one-mul, add-sub-cancel-left, le-antisymm, le-of-eq, le-refl, mul-le-mul-right}
-use native.Mathlib.Numerals.{add-one}
 use native.Mathlib.Omega.{arith}
 use lib.Dec.{lit≤}
-use lib.ListN.{length, take, drop, getD, set, length-append, drop-of-length-le, length-drop, length-set, List·getD-append, List·getD-eq-default}
-use lib.Seq.{drop-cons, set-at, append-snoc, take-at, drop-at, drop-drop, getD-at, getD-append-add, ext-getD}
-use Rattle.green_rows.specs.Table.{table, joined, part}
-use Rattle.green_rows.proofs.PartLaws.{part-length, placed}
+use lib.ListN.{length, take, drop, getD, length-append, drop-of-length-le, length-drop, List·getD-append}
+use lib.Seq.{take-at, drop-at, drop-drop, getD-append-add}
+use Rattle.lists.specs.Table.{table, joined}
+use Rattle.lists.specs.Part.{part, rowOf}
+use Rattle.lists.proofs.PartLaws.{part-length, placed}
+use Rattle.lists.proofs.TableLaws.{length-table, getD-table, table-same}
 
 module _ {A : Type 0} where
-  pub length-table : (f : ℕ → A) (n : ℕ) → length (table f n) ≡ n
-  unfolding table
-  length-table f zero = refl
-  length-table f (suc n) = length-append (table f n) (f n ∷ []) ∙ ap (λ (k : ℕ). k + 1) (length-table f n) ∙ add-one n
-
-  pub getD-table : (f : ℕ → A) (n i : ℕ) (d : A) → i < n → getD (table f n) i d ≡ f i
-  unfolding table
-  getD-table f zero i d h = absurd (not-suc-le-zero h)
-  getD-table f (suc n) i d h =
-      elim (decLe (suc i) n) [
-        | yes l ↦ List·getD-append (table f n) (f n ∷ []) d i (rw (length-table f n) l) ∙ getD-table f n i d l
-        | no l ↦ let e : i ≡ n = omega arith in rw e (getD-at (table f n) (f n) [] d n (length-table f n))
-      ]
-
-  -- rules that agree below n
-  pub table-same : (f g : ℕ → A) (n : ℕ) → ((i : ℕ) → i < n → f i ≡ g i) → table f n ≡ table g n
-  unfolding table
-  table-same f g zero h = refl
-  table-same f g (suc n) h = ap₂ (λ (l : List A) (a : A). l ++ (a ∷ [])) (table-same f g n (λ i k. h i (omega arith))) (h n (omega arith))
-
-  pub table-append : (f : ℕ → A) (m n : ℕ) → table f (m + n) ≡ table f m ++ table (λ k. f (m + k)) n
-  unfolding table
-  table-append f m zero = rw (add-zero, append-nil)
-  table-append f m (suc n) =
-      rw add-suc (ap (λ (l : List A). l ++ (f (m + n) ∷ [])) (table-append f m n) ∙ append-assoc (table f m) (table (λ k. f (m + k)) n) (f (m + n) ∷ []))
-
-  pub table-part : (f : ℕ → A) (m a n : ℕ) → a + n ≤ m → part a n (table f m) ≡ table (λ k. f (a + k)) n
-  table-part f m a n h =
-      let e : m ≡ a + (n + (m - (a + n))) = omega arith in
-      ap (λ (k : ℕ). part a n (table f k)) e
-      ∙ rw (table-append f a (n + (m - (a + n))), drop-at (table f a) (table (λ k. f (a + k)) (n + (m - (a + n)))) a (length-table f a), table-append (λ k. f (a + k)) n (m - (a + n)))
-      (take-at (table (λ k. f (a + k)) n) _ n (length-table _ n))
-
-  -- what holds of each entry, and of what is read past the end
-  pub table-all : (P : A → Type 0) (f : ℕ → A) (n : ℕ) {d : A} → P d → ((i : ℕ) → i < n → P (f i)) → (k : ℕ) → P (getD (table f n) k d)
-  table-all P f n {d} p h k =
-      elim (decLe (suc k) n) [
-        | yes l ↦ subst P (sym (getD-table f n k d l)) (h k l)
-        | no l ↦ subst P (sym (List·getD-eq-default (table f n) d (rw (length-table f n) (omega arith)))) p
-      ]
-
-  -- a list by its entries
-  pub table-getD : (l : List A) (d : A) → table (λ k. getD l k d) (length l) ≡ l
-  table-getD l d =
-      ext-getD d (table (λ k. getD l k d) (length l)) l (length-table _ _) (λ i h. getD-table _ (length l) i d (rw (length-table (λ k. getD l k d) (length l)) at h))
-
-  -- a loop that stores f i at each i, in a slice that held d: what the slice xs holds at the loop's head
-  abbrev pub Filled : (f : ℕ → A) (i : ℕ) (d xs : List A) → Type 0
-  Filled f i d xs = (xs ≡ table f i ++ drop i d) × (length xs ≡ length d)
-
-  -- before its first turn, at a turn, after its last
-  pub table-none : (f : ℕ → A) (d : List A) → d ≡ table f 0 ++ drop 0 d
-  unfolding table
-  table-none f d = refl
-
-  table-store : (f : ℕ → A) (i : ℕ) (d : List A) → i < length d → set (table f i ++ drop i d) i (f i) ≡ table f (i + 1) ++ drop (i + 1) d
-  unfolding table
-  table-store f i d h =
-      rw (add-one i, drop-cons d i (f i) h)
-      (set-at (table f i) (getD d i (f i)) (drop (suc i) d) (f i) i (length-table f i) ∙ sym (append-snoc (table f i) (f i) (drop (suc i) d)))
-
-  pub table-turn : (f : ℕ → A) (i : ℕ) (d : List A) {xs : List A} {a : A} → i < length d → Filled f i d xs → a ≡ f i → Filled f (i + 1) d (set xs i a)
-  table-turn f i d {xs} {a} h p q =
-      let t : set xs i a ≡ table f (i + 1) ++ drop (i + 1) d = rw (p .0, q) (table-store f i d h) in
-      (t, length-set xs i a ∙ p .1)
-
-  pub table-done : (f : ℕ → A) (i n : ℕ) (d : List A) → i ≤ n → n ≤ i → length d ≡ n → table f i ++ drop i d ≡ table f n
-  table-done f i n d h k e = rw (drop-of-length-le d {i = i} (omega arith), append-nil (table f i), le-antisymm h k)
-
   pub joined-one : (f : ℕ → List A) → joined f 1 ≡ f 0
   unfolding joined
   joined-one f = refl
@@ -97,8 +29,8 @@ module _ {A : Type 0} where
   joined-append f m (suc n) = rw add-suc (ap (λ (l : List A). l ++ f (m + n)) (joined-append f m n) ∙ append-assoc (joined f m) (joined (λ k. f (m + k)) n) (f (m + n)))
 
   -- a part of k places is handed on, after those that hold p, and then holds q
-  put-part : (n k : ℕ) (p q d : List A) → length p ≡ n → placed n (n + k) (p ++ drop n d) q ≡ (p ++ q) ++ drop (n + k) d
-  put-part n k p q d h = rw (take-at p (drop n d) n h, drop-at p (drop n d) n h, add-sub-cancel-left n k, drop-drop k n d) (sym (append-assoc p q (drop (n + k) d)))
+  placed-next : (n k : ℕ) (p q d : List A) → length p ≡ n → placed n (n + k) (p ++ drop n d) q ≡ (p ++ q) ++ drop (n + k) d
+  placed-next n k p q d h = rw (take-at p (drop n d) n h, drop-at p (drop n d) n h, add-sub-cancel-left n k, drop-drop k n d) (sym (append-assoc p q (drop (n + k) d)))
 
 -- part i of n, each w places long, lies among them
 pub part-within : (w : ℕ) {i n : ℕ} → i < n → i * w + w ≤ n * w
@@ -135,7 +67,7 @@ module _ {A : Type 0} (f : ℕ → List A) (w : ℕ) (rows : (j : ℕ) → lengt
   pub joined-turns : (i b n : ℕ) (d : List A) {xs ys : List A} → i + b ≤ n → length d ≡ n * w → Handed i d xs → ys ≡ joined (λ k. f (i + k)) b
       → Handed (i + b) d (placed (i * w) (i * w + b * w) xs ys)
   joined-turns i b n d {xs} {ys} h e p q =
-      let t : placed (i * w) (i * w + b * w) xs ys ≡ joined f (i + b) ++ drop ((i + b) * w) d = rw (p .0, q, joined-append f i b, add-mul i b w) (put-part (i * w) (b * w) (joined f i) (joined (λ k. f (i + k)) b) d (length-joined i)) in
+      let t : placed (i * w) (i * w + b * w) xs ys ≡ joined f (i + b) ++ drop ((i + b) * w) d = rw (p .0, q, joined-append f i b, add-mul i b w) (placed-next (i * w) (b * w) (joined f i) (joined (λ k. f (i + k)) b) d (length-joined i)) in
       (t, ap length t ∙ simp (length-append, length-joined, length-drop) (omega (arith, e, mul-le-mul-right w h)))
 
   pub joined-turn : (i n : ℕ) (d : List A) {xs ys : List A} → i < n → length d ≡ n * w → Handed i d xs → ys ≡ f i
@@ -152,6 +84,11 @@ joined-rows f w rows m i n h =
     ap (λ (k : ℕ). part (i * w) (n * w) (joined f k)) e
     ∙ rw (joined-append f i (n + (m - (i + n))), drop-at (joined f i) (joined (λ k. f (i + k)) (n + (m - (i + n)))) (i * w) (length-joined f w rows i), joined-append (λ k. f (i + k)) n (m - (i + n)))
     (take-at (joined (λ k. f (i + k)) n) _ (n * w) (length-joined (λ k. f (i + k)) w (λ k. rows (i + k)) n))
+
+-- part i is row i
+pub row-joined : (f : ℕ → List ℕ) (w : ℕ) → ((j : ℕ) → length (f j) ≡ w) → (n i : ℕ) → i < n → rowOf w i (joined f n) ≡ f i
+unfolding rowOf
+row-joined f w rows n i h = (rw one-mul at (joined-rows f w rows n i 1 (omega arith))) ∙ joined-one (λ k. f (i + k)) ∙ ap f (add-zero i)
 
 -- parts of w entries, part k by rule k
 module _ {A : Type 0} (rule : ℕ → ℕ → A) (w : ℕ) where

@@ -1,16 +1,21 @@
--- Parts of a list, as the code takes them to lend to calls. Assumes nothing.
-use Prim.Native.Nat.{ℕ, _+_, _-_, _*_, _≤_, _<_}
-use mathlib.Core.List.{List, _++_, append-nil}
-use mathlib.Core.Path.{_≡_, ap, _∙_}
+-- Parts of a list, as the code takes them to lend to calls, and rows of a plane or a mosaic. Assumes nothing.
+use Prim.Native.Nat.{ℕ, zero, suc, _+_, _-_, _*_, _≤_, _<_}
+use mathlib.Core.List.{List, [], _∷_, _++_, append-nil}
+use mathlib.Core.Path.{_≡_, refl, ap, _∙_}
 use native.Mathlib.Nat.{add-sub-cancel-left}
 use native.Mathlib.Omega.{arith}
 use lib.ListN.{length, take, drop, getD, length-append, length-drop, drop-of-length-le}
-use lib.Seq.{length-take-le, take-all, take-at, drop-at, drop-drop, getD-take, getD-drop}
-use Rattle.whole.proofs.Lists.{part-take}
-use Rattle.bayer.specs.View.{rowOf}
-use Rattle.green_rows.specs.Table.{part}
+use lib.Seq.{length-take-le, take-all, take-at, take-take, drop-at, drop-drop, getD-take, getD-drop}
+use Rattle.lists.specs.Part.{part, rowOf}
 
 module _ {A : Type 0} where
+  -- of the first n entries
+  pub part-take : (a k n : ℕ) (l : List A) → a + k ≤ n → part a k (take n l) ≡ part a k l
+  part-take zero k n l h = take-take k n l (omega arith)
+  part-take (suc a) k zero l h = absurd (let z : ⊥ = omega arith in z)
+  part-take (suc a) k (suc n) [] h = refl
+  part-take (suc a) k (suc n) (x ∷ l) h = part-take a k n l (omega arith)
+
   -- k entries from the a-th on
   pub part-length : (a k : ℕ) (l : List A) → a + k ≤ length l → length (take (a + k - a) (drop a l)) ≡ k
   part-length a k l h = rw (add-sub-cancel-left a k) (length-take-le k (drop a l) (rw (length-drop a l) (omega arith)))
@@ -40,7 +45,17 @@ module _ {A : Type 0} where
   pub part-part : (a k b n : ℕ) (l : List A) → a + k ≤ n → part a k (part b n l) ≡ part (b + a) k l
   part-part a k b n l h = part-take a k n (drop b l) h ∙ ap (take k) (drop-drop a b l)
 
--- row j of those that are w wide
+-- ---- rows, w wide
+
+-- row j, as it is handed on
 pub row-is : (w j : ℕ) (rows : List ℕ) {k : ℕ} → k ≡ j → take (k * w + w - k * w) (drop (k * w) rows) ≡ rowOf w j rows
 unfolding rowOf
 row-is w j rows {k} e = rw (add-sub-cancel-left (k * w) w, e)
+
+pub row-length : (w i : ℕ) (rows : List ℕ) → (i + 1) * w ≤ length rows → length (rowOf w i rows) ≡ w
+unfolding rowOf
+row-length w i rows h = length-take-le w (drop (i * w) rows) (simp length-drop (omega arith))
+
+pub row-entry : (w i : ℕ) (rows : List ℕ) (j : ℕ) → j < w → getD (rowOf w i rows) j 0 ≡ getD rows (i * w + j) 0
+unfolding rowOf
+row-entry w i rows j h = getD-part (i * w) w rows j 0 h

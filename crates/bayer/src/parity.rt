@@ -1,7 +1,7 @@
 ghost use mathlib.Core.Path.{_≡_};
-ghost use Rattle.green_rows.specs.Buffer.{startsGreen};
-use bayer::colour::Colour;
-use bayer::colour::colour_at;
+ghost use Rattle.bayer.specs.Parity.{startsGreen};
+use crate::colour::Colour;
+use crate::colour::colour_at;
 
 // 1 where column 0 of row v is green, else 0.
 pub fn starts_green(layout: u8, v: usize) -> usize

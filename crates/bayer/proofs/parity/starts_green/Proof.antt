@@ -1,7 +1,7 @@
--- `green_rows::parity::starts_green` meets its contract, by column 0's colour. Assumes nothing.
+-- `bayer::parity::starts_green` meets its contract, by column 0's colour. Assumes nothing.
 use borrow.Author.Needs.{needs}
-use Rattle.green_rows.proofs.parity.starts_green.Statement.{statement}
-use Rattle.green_rows.proofs.parity.starts_green.Tie as tie
+use Rattle.bayer.proofs.parity.starts_green.Statement.{statement}
+use Rattle.bayer.proofs.parity.starts_green.Tie as tie
 
 colour-at-requires : tie.Need-colour-at-requires
 colour-at-requires c κs = tt

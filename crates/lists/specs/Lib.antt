@@ -1,0 +1,4 @@
+pub mod Every
+pub mod Table
+pub mod Part
+pub mod Bound
