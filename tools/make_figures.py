@@ -109,6 +109,7 @@ def make(seed, directory):
         'use Prim.Native.Nat.{ℕ}',
         'use mathlib.Core.List.{List, [], _∷_}',
         'use Rattle.bayer.specs.declared.frame.Frame.{Frame}',
+        'use Rattle.bayer.specs.Frame.{frame}',
         'use Rattle.figures.specs.Worked.{PlanesClaim, givesPlanes}',
     ]
     exact = head('Values of the exact reconstruction of the frames of WorkedPlanes.antt. proofs/ExactTable.antt has the theorem.', seed) + [
@@ -121,7 +122,7 @@ def make(seed, directory):
     for layout, n in enumerate(LAST):
         f = r.Frame(FRAMES[layout][0], FRAMES[layout][1], layout)
         frame = frames[layout]
-        planes += claim('frame' + n, 'Frame', 'record { width = %d; height = %d; layout = %d }' % (f.W, f.H, layout))
+        planes += claim('frame' + n, 'Frame', 'frame %d %d %d' % (f.W, f.H, layout))
         planes += cells(f, 'readings' + n, frame)
         for name, plane in zip(PLANES, r.whole(RULES, f, frame)):
             planes += cells(f, name.lower() + n, plane)

@@ -1,14 +1,10 @@
 -- Laws of conditions that are tested in their order. Assumes nothing.
-use Prim.Native.Nat.{ℕ, zero, suc, _<_, _≤_}
+use Prim.Native.Nat.{ℕ, zero, suc, _<_}
 use mathlib.Core.Path.{_≡_, refl, sym, ap, _∙_}
 use mathlib.Core.Bool.{Bool, true, false, cond}
 use mathlib.Core.List.{List, [], _∷_, _++_}
 use native.Mathlib.Omega.{arith}
-use borrow.Author.Tests.{ltb-false}
-use lib.Dec.{ltb}
-use Rattle.whole.proofs.Tests.{neither}
 use Rattle.bayer.specs.Refusal.{Refusal, sizeOutOfRange, unknownLayout, rowsOutsideFrame, wrongPieceLength, wrongPlaneLength, readingOutOfRange, rowMissing, malformedFile, number, Case, firstOf, heldAfter}
-use Rattle.bayer.specs.Condition.{outsideSizes}
 
 pub number-positive : (r : Refusal) → 0 < number r
 number-positive sizeOutOfRange = omega arith
@@ -90,11 +86,6 @@ on (c ∷ cs) h = rw (h .0) (on cs (h .1))
 -- of two lists, of neither
 pub off-append : (cs ds : List Case) → firstOf (cs ++ ds) ≡ 0 → (firstOf cs ≡ 0) × (firstOf ds ≡ 0)
 off-append cs ds e = or-none (firstOf cs) (firstOf ds) (sym (first-append cs ds) ∙ e)
-
--- ---- what a number says
-
-pub size-fits : (n : ℕ) → outsideSizes n ≡ false → (8 ≤ n) × (n ≤ 4096)
-size-fits n e = let p = neither (ltb n 8) (ltb 4096 n) e in (ltb-false n 8 (p .0), ltb-false 4096 n (p .1))
 
 -- a refused call leaves what it was lent
 pub refused-holds : (number : ℕ) (delivered lent : List ℕ) → (number ≡ 0 → ⊥) → heldAfter number delivered lent ≡ lent

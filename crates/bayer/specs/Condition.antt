@@ -1,10 +1,11 @@
 -- Conditions of refusals. Assumes nothing.
-use Prim.Native.Nat.{ℕ, _+_, _*_}
+use Prim.Native.Nat.{ℕ, _+_, _*_, _≤_}
 use mathlib.Core.Bool.{Bool, _||_}
 use mathlib.Core.List.{List, [], _∷_, _++_}
 use lib.Dec.{ltb, eqb}
+use Rattle.lists.specs.Bound.{anyAbove}
 use Rattle.bayer.specs.declared.frame.Frame.{Frame}
-use Rattle.bayer.specs.Refusal.{Case, _when_, sizeOutOfRange, unknownLayout, rowsOutsideFrame}
+use Rattle.bayer.specs.Refusal.{Case, _when_, sizeOutOfRange, unknownLayout, rowsOutsideFrame, readingOutOfRange}
 
 -- 1, for a width or a height: outside 8 to 4096
 abbrev pub outsideSizes : ℕ → Bool
@@ -21,12 +22,24 @@ unknown layout = ltb 3 layout
 abbrev pub frameCases : Frame → List Case
 frameCases f = sizeCases (f .width) (f .height) ++ (unknownLayout when unknown (f .layout)) ∷ []
 
+-- a frame that neither is refused for
+pub record FrameFits (f : Frame) : Type 0 where
+  pub wide : 8 ≤ f .width
+  pub narrow : f .width ≤ 4096
+  pub high : 8 ≤ f .height
+  pub low : f .height ≤ 4096
+  pub known : f .layout ≤ 3
+
 -- 3, of n rows from row a on: there is none, or they run past the frame
 abbrev pub rowsOutside : (H a n : ℕ) → Bool
 rowsOutside H a n = eqb n 0 || ltb H (a + n)
 
 abbrev pub rowsCases : Frame → (a n : ℕ) → List Case
 rowsCases f a n = (rowsOutsideFrame when rowsOutside (f .height) a n) ∷ []
+
+-- 6: some reading is above 4095
+abbrev pub rangeCases : (readings : List ℕ) → List Case
+rangeCases readings = (readingOutOfRange when anyAbove 4095 readings) ∷ []
 
 -- 7: a plane of this length lacks row i
 abbrev pub lacksRow : (length w i : ℕ) → Bool

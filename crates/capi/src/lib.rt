@@ -8,7 +8,7 @@ ghost use Rattle.bayer.specs.Piece.{pieceStart, pieceRows};
 ghost use Rattle.lists.specs.Part.{rowOf};
 ghost use Rattle.bayer.specs.View.{rowViewNumber, partnerViewNumber, shown, shownFrom};
 ghost use Rattle.bayer.specs.Planes.{planeOf, threePlanes};
-ghost use Rattle.strip.specs.Strip.{stripNumber, Promise};
+ghost use Rattle.strip.specs.Strip.{asked, stripNumber, Promise};
 ghost use Rattle.capi.specs.Call.{planeNumber};
 use bayer::colour::Colour;
 use bayer::colour::partner;
@@ -35,7 +35,7 @@ pub extern "C" fn rokzimp_strip_check(
     green: usize,
     blue: usize,
 ) -> u32
-    ensures { λ r. ⌜ r ≡ stripNumber (frame width height layout) a n (now (piece .entry)) red green blue ⌝ }
+    ensures { λ r. ⌜ r ≡ stripNumber (asked (frame width height layout) a n (now (piece .entry))) red green blue ⌝ }
 {
     let frame = Frame::new(width, height, layout);
     strip_check(frame, a, n, piece, red, green, blue)
@@ -54,7 +54,7 @@ pub extern "C" fn rokzimp_strip(
     green: &mut [u16],
     blue: &mut [u16],
 ) -> u32
-    ensures { λ r. ⌜ Promise (frame width height layout) a n (now (piece .entry)) (threePlanes (now (red .entry)) (now (green .entry)) (now (blue .entry))) r (threePlanes (now (red .exit)) (now (green .exit)) (now (blue .exit))) ⌝ }
+    ensures { λ r. ⌜ Promise (asked (frame width height layout) a n (now (piece .entry))) (threePlanes (now (red .entry)) (now (green .entry)) (now (blue .entry))) r (threePlanes (now (red .exit)) (now (green .exit)) (now (blue .exit))) ⌝ }
 {
     let frame = Frame::new(width, height, layout);
     strip(frame, a, n, piece, red, green, blue)

@@ -13,13 +13,14 @@ use Rattle.bayer.specs.declared.frame.Frame.{Frame}
 use Rattle.bayer.specs.Mirror.{mirror}
 use Rattle.bayer.specs.Piece.{pieceStart, pieceEnd, pieceOf}
 use Rattle.lists.specs.Part.{rowOf}
+use Rattle.lists.proofs.TableLaws.{table-same}
+use Rattle.lists.proofs.JoinedLaws.{joined-same}
 use Rattle.bayer.proofs.MirrorLaws.{mirror-is}
 use Rattle.bayer.proofs.PieceLaws.{piece-row}
-use Rattle.gbtf.specs.Direction.{total}
 use Rattle.bayer.specs.Mosaic.{continued}
 use Rattle.bayer.proofs.Near.{Near, wider}
-use Rattle.gbtf.proofs.GreenLocal.{greenAt-same, exactGreenAt-same}
-use Rattle.demosaic.specs.Sample.{sample}
+use Rattle.green_rule.proofs.GreensLaws.{greens-local, exactGreens-local}
+use Rattle.demosaic.specs.Sample.{sample, planeRows}
 use Rattle.demosaic.specs.Exact.{exactSample}
 use Rattle.demosaic.proofs.SampleLocal.{sampleFrom-same, exactFrom-same}
 
@@ -43,7 +44,7 @@ module _ (H i : ℕ) (hH : 2 ≤ H) (hi : i < H) where
   below = near-one (pos (i + 1)) (omega arith) (omega arith) (omega arith)
 
 -- rows from `first` on in xs, and from `other` on in ys
-module _ (ws : List ℕ) (f : Frame) (first other : ℕ) (xs ys : List ℕ) (i : ℕ) (hH : 2 ≤ f .height) (hi : i < f .height)
+module _ (f : Frame) (first other : ℕ) (xs ys : List ℕ) (i : ℕ) (hH : 2 ≤ f .height) (hi : i < f .height)
     (agree : (r : ℤ) → Near 7 (pos i) r → rowOf (f .width) (mirror (f .height) r - first) xs ≡ rowOf (f .width) (mirror (f .height) r - other) ys) where
   same-row : (r : ℤ) → Near 7 (pos i) r → (continued f first xs) .reading r ≡ (continued f other ys) .reading r
   same-row r h = ap (λ l j. getD l (mirror (f .width) j) 0) (agree r h)
@@ -57,15 +58,15 @@ module _ (ws : List ℕ) (f : Frame) (first other : ℕ) (xs ys : List ℕ) (i :
   read-same : (r : ℤ) → Near 1 (pos i) r → (j : ℤ) → (continued f first xs) .reading r j ≡ (continued f other ys) .reading r j
   read-same r h j = ap (λ x. x j) (same-row r (wider 7 r h (lit≤ tt)))
 
-  pub sample-local : (K : ℕ) (k : Colour) (j : ℕ) → sample K ws f first xs k i j ≡ sample K ws f other ys k i j
+  sample-local : (k : Colour) (j : ℕ) → sample f first xs k i j ≡ sample f other ys k i j
   unfolding sample
-  sample-local K k j =
-      sampleFrom-same f _ _ _ (pos i) read-same here (above H i hH hi) (level H i hH hi) (below H i hH hi) _ _ (λ r h j. greenAt-same _ _ _ (pos i) same-row ws r h j K) k (pos j)
+  sample-local k j =
+      sampleFrom-same f _ _ _ (pos i) read-same here (above H i hH hi) (level H i hH hi) (below H i hH hi) _ _ (greens-local f first other xs ys (pos i) same-row) k (pos j)
 
-  pub exactSample-local : (hT : 0 < total ws) (k : Colour) (j : ℕ) → exactSample ws hT f first xs k i j ≡ exactSample ws hT f other ys k i j
+  exactSample-local : (k : Colour) (j : ℕ) → exactSample f first xs k i j ≡ exactSample f other ys k i j
   unfolding exactSample
-  exactSample-local hT k j =
-      exactFrom-same f _ _ _ (pos i) read-same here (above H i hH hi) (level H i hH hi) (below H i hH hi) _ _ (λ r h j. exactGreenAt-same _ _ _ (pos i) same-row ws r h j hT) k (pos j)
+  exactSample-local k j =
+      exactFrom-same f _ _ _ (pos i) read-same here (above H i hH hi) (level H i hH hi) (below H i hH hi) _ _ (exactGreens-local f first other xs ys (pos i) same-row) k (pos j)
 
 -- a strip of n rows from row a, and one of its rows
 module _ (f : Frame) (a n i : ℕ) (hH : 8 ≤ f .height) (hn : a + n ≤ f .height) (low : a ≤ i) (high : i < a + n) where
@@ -78,8 +79,13 @@ module _ (f : Frame) (a n i : ℕ) (hH : 8 ≤ f .height) (hn : a + n ≤ f .hei
   piece-agrees frame r h = piece-row (f .width) (f .height) a n (mirror (f .height) r) frame (in-piece r h .0) (in-piece r h .1) ∙ ap (λ x. rowOf (f .width) x frame) (let e : mirror (f .height) r ≡ mirror (f .height) r - 0 = omega arith in e)
 
   -- the samples that the piece gives are the whole frame's
-  pub piece-sample : (K : ℕ) (ws : List ℕ) (frame : List ℕ) (k : Colour) (j : ℕ) → sample K ws f (pieceStart a) (pieceOf (f .width) (f .height) a n frame) k i j ≡ sample K ws f 0 frame k i j
-  piece-sample K ws frame k j = sample-local ws f (pieceStart a) 0 _ _ i (omega arith) (omega arith) (piece-agrees frame) K k j
+  pub piece-sample : (frame : List ℕ) (k : Colour) (j : ℕ) → sample f (pieceStart a) (pieceOf (f .width) (f .height) a n frame) k i j ≡ sample f 0 frame k i j
+  piece-sample frame k j = sample-local f (pieceStart a) 0 _ _ i (omega arith) (omega arith) (piece-agrees frame) k j
 
-  pub piece-exactSample : (ws : List ℕ) (hT : 0 < total ws) (frame : List ℕ) (k : Colour) (j : ℕ) → exactSample ws hT f (pieceStart a) (pieceOf (f .width) (f .height) a n frame) k i j ≡ exactSample ws hT f 0 frame k i j
-  piece-exactSample ws hT frame k j = exactSample-local ws f (pieceStart a) 0 _ _ i (omega arith) (omega arith) (piece-agrees frame) hT k j
+  pub piece-exactSample : (frame : List ℕ) (k : Colour) (j : ℕ) → exactSample f (pieceStart a) (pieceOf (f .width) (f .height) a n frame) k i j ≡ exactSample f 0 frame k i j
+  piece-exactSample frame k j = exactSample-local f (pieceStart a) 0 _ _ i (omega arith) (omega arith) (piece-agrees frame) k j
+
+-- and so are its rows
+pub piece-rows : (f : Frame) (a n : ℕ) → 8 ≤ f .height → a + n ≤ f .height → (frame : List ℕ) (k : Colour) → planeRows f (pieceStart a) (pieceOf (f .width) (f .height) a n frame) a n k ≡ planeRows f 0 frame a n k
+unfolding planeRows
+piece-rows f a n hH hn frame k = joined-same _ _ n (λ i h. table-same _ _ (f .width) (λ j g. piece-sample f a n (a + i) hH hn (omega arith) (omega arith) frame k j))

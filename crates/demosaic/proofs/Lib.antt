@@ -1,9 +1,11 @@
 pub mod FillLaws
 pub mod FillError
 pub mod Neighbours
+pub mod NeighbourColour
 pub mod SampleRange
 pub mod SampleError
+pub mod WeightsError
 pub mod SampleLocal
 pub mod FrameLocal
 pub mod SampleInside
-pub mod NeighbourColour
+pub mod PlaneRowsLaws

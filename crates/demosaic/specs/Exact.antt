@@ -1,5 +1,5 @@
 -- The exact reconstruction of a frame: exact green, and the exact form of red and blue over it. Fractions; nothing is rounded. Assumes nothing.
-use Prim.Native.Nat.{ℕ, suc, _*_, _<_}
+use Prim.Native.Nat.{ℕ, suc, _*_}
 use native.Mathlib.Nat.{zero-lt-suc}
 use mathlib.Core.Bool.{cond}
 use mathlib.Core.List.{List, [], _∷_, map}
@@ -10,9 +10,8 @@ use Rattle.bayer.specs.declared.colour.Colour.{Colour}
 use Rattle.bayer.specs.declared.colour.Colour.the-variants.{Red, Green, Blue}
 use Rattle.bayer.specs.declared.frame.Frame.{Frame}
 use Rattle.bayer.specs.Colour.{same}
-use Rattle.gbtf.specs.Direction.{total}
 use Rattle.bayer.specs.Mosaic.{Mosaic, continued}
-use Rattle.gbtf.specs.GreenAt.{exactGreenAt}
+use Rattle.green_rule.specs.Greens.{exactGreens}
 use Rattle.demosaic.specs.Sample.{Pixel, readingOf, neighbours}
 
 -- "exact green minus 16 × reading"
@@ -46,11 +45,11 @@ module _ (f : Frame) (m : Mosaic) (G : (i j : ℤ) → Fraction) where
   exactFrom Blue i j = exactOtherFrom Blue i j
 
 -- plane k of a frame's exact reconstruction at row i and column j, from the frame's rows from row `first` on
-unfoldable pub exactSample : (ws : List ℕ) → 0 < total ws → Frame → (first : ℕ) (rows : List ℕ) (k : Colour) (i j : ℕ) → Fraction
-exactSample ws hT f first rows k i j = let m = continued f first rows in exactFrom f m (λ i j. exactGreenAt ws m i j hT) k (pos i) (pos j)
+unfoldable pub exactSample : Frame → (first : ℕ) (rows : List ℕ) (k : Colour) (i j : ℕ) → Fraction
+exactSample f first rows k i j = exactFrom f (continued f first rows) (exactGreens f first rows) k (pos i) (pos j)
 
 -- how far a delivered sample of each plane may lie from it, in hundredths of a unit
-abbrev pub printed : Colour → ℕ
-printed Red = 151
-printed Green = 51
-printed Blue = 151
+abbrev pub printedError : Colour → ℕ
+printedError Red = 151
+printedError Green = 51
+printedError Blue = 151

@@ -1,16 +1,17 @@
--- The samples of the three planes at a pixel of a frame, in units of a sixteenth of a reading, by the whole-number rules. K is the share scale, ws the weights of the five differences. Assumes nothing.
-use Prim.Native.Nat.{ℕ, _*_}
+-- The samples of the three planes at a pixel of a frame, in units of a sixteenth of a reading, by the whole-number rules. Assumes nothing.
+use Prim.Native.Nat.{ℕ, _+_, _*_}
 use mathlib.Core.Bool.{cond}
 use mathlib.Core.List.{List, [], _∷_, map}
 use lib.IntN.{ℤ, pos, _+ℤ_, _-ℤ_}
 use lib.ListN.{length}
+use Rattle.lists.specs.Table.{table, joined}
 use Rattle.bayer.specs.declared.colour.Colour.{Colour}
 use Rattle.bayer.specs.declared.colour.Colour.the-variants.{Red, Green, Blue}
 use Rattle.bayer.specs.declared.frame.Frame.{Frame}
 use Rattle.bayer.specs.Colour.{same}
 use Rattle.bayer.specs.Mirror.{mirror}
 use Rattle.bayer.specs.Mosaic.{Mosaic, continued, isGreen}
-use Rattle.gbtf.specs.GreenAt.{greenAt}
+use Rattle.green_rule.specs.Greens.{greens}
 use Rattle.demosaic.specs.Fill.{colourDifference, sumOf, fill}
 
 pub record Pixel : Type 0 where
@@ -58,6 +59,10 @@ module _ (f : Frame) (m : Mosaic) (G : (i j : ℤ) → ℕ) where
   sampleFrom Green i j = G i j
   sampleFrom Blue i j = otherFrom Blue i j
 
--- plane k of a frame at row i and column j, with GBTF's green, from the frame's rows from row `first` on
-unfoldable pub sample : (K : ℕ) (ws : List ℕ) → Frame → (first : ℕ) (rows : List ℕ) (k : Colour) (i j : ℕ) → ℕ
-sample K ws f first rows k i j = let m = continued f first rows in sampleFrom f m (λ i j. greenAt ws m i j K) k (pos i) (pos j)
+-- plane k of a frame at row i and column j, with the frame's greens, from the frame's rows from row `first` on
+unfoldable pub sample : Frame → (first : ℕ) (rows : List ℕ) (k : Colour) (i j : ℕ) → ℕ
+sample f first rows k i j = sampleFrom f (continued f first rows) (greens f first rows) k (pos i) (pos j)
+
+-- rows a to a + n − 1 of it
+unfoldable pub planeRows : Frame → (first : ℕ) (rows : List ℕ) (a n : ℕ) (k : Colour) → List ℕ
+planeRows f first rows a n k = joined (λ i. table (λ j. sample f first rows k (a + i) j) (f .width)) n

@@ -6,6 +6,7 @@ use Rattle.gbtf.specs.Difference.{difference}
 use Rattle.gbtf.specs.Fusion.{fusion, green}
 use Rattle.gbtf.specs.Exact.{sumOver/t², exactGreen}
 use Rattle.gbtf.specs.GreenAt.{DH, DV, GH, GV, greenAt, exactGreenAt}
+use Rattle.green_rule.specs.Greens.{greens, exactGreens}
 use Rattle.demosaic.specs.Sample.{neighbours}
 use Rattle.demosaic.specs.Exact.{mean, exactFill, exactOtherFrom, exactSample}
 use Rattle.lists.specs.Every.{Every}
@@ -14,19 +15,19 @@ use Rattle.figures.specs.WorkedExact.{exact₀, exact₁, exact₂, exac
 use Rattle.figures.proofs.Tables.{_and_}
 
 exact₀-holds : exactHolds exact₀
-unfolding colours colourAt mirror rowOf difference fusion green DH DV GH GV greenAt sumOver/t² exactGreen exactGreenAt neighbours mean exactFill exactOtherFrom exactSample
+unfolding colours colourAt mirror rowOf difference fusion green DH DV GH GV greenAt greens sumOver/t² exactGreen exactGreenAt exactGreens neighbours mean exactFill exactOtherFrom exactSample
 exact₀-holds = tt
 
 exact₁-holds : exactHolds exact₁
-unfolding colours colourAt mirror rowOf difference fusion green DH DV GH GV greenAt sumOver/t² exactGreen exactGreenAt neighbours mean exactFill exactOtherFrom exactSample
+unfolding colours colourAt mirror rowOf difference fusion green DH DV GH GV greenAt greens sumOver/t² exactGreen exactGreenAt exactGreens neighbours mean exactFill exactOtherFrom exactSample
 exact₁-holds = tt
 
 exact₂-holds : exactHolds exact₂
-unfolding colours colourAt mirror rowOf difference fusion green DH DV GH GV greenAt sumOver/t² exactGreen exactGreenAt neighbours mean exactFill exactOtherFrom exactSample
+unfolding colours colourAt mirror rowOf difference fusion green DH DV GH GV greenAt greens sumOver/t² exactGreen exactGreenAt exactGreens neighbours mean exactFill exactOtherFrom exactSample
 exact₂-holds = tt
 
 exact₃-holds : exactHolds exact₃
-unfolding colours colourAt mirror rowOf difference fusion green DH DV GH GV greenAt sumOver/t² exactGreen exactGreenAt neighbours mean exactFill exactOtherFrom exactSample
+unfolding colours colourAt mirror rowOf difference fusion green DH DV GH GV greenAt greens sumOver/t² exactGreen exactGreenAt exactGreens neighbours mean exactFill exactOtherFrom exactSample
 exact₃-holds = tt
 
 pub worked-exact-hold : Every exactHolds workedExact

@@ -17,6 +17,7 @@ use Rattle.gbtf.specs.Direction.{t}
 use Rattle.gbtf.specs.Fusion.{smallest, share, shares, sharedDifferences, fusion, green}
 use Rattle.gbtf.specs.GreenAt.{DH, DV, GH, GV, greenAt}
 use Rattle.gbtf.specs.Weights.{scale}
+use Rattle.green_rule.specs.Greens.{greens}
 use Rattle.demosaic.specs.Fill.{fill}
 use Rattle.demosaic.specs.Sample.{neighbours, otherFrom, sample}
 use Rattle.lists.specs.Every.{Every}
@@ -55,11 +56,11 @@ module _ (sum : ℤ) (e w n s : Direction) (p : t e ≡ t w) (q : t e ≡ t n) (
 -- ---- the greens of the two frames
 
 greens-400 : T (planeIs frame8 (readings8 400 200 100) Green (λ i j. 3200))
-unfolding colours colourAt mirror rowOf difference fusion green DH DV GH GV greenAt sample
+unfolding colours colourAt mirror rowOf difference fusion green DH DV GH GV greenAt greens sample
 greens-400 = tt
 
 greens-4095 : T (planeIs frame8 (readings8 4095 0 0) Green (λ i j. 0))
-unfolding colours colourAt mirror rowOf difference fusion green DH DV GH GV greenAt sample
+unfolding colours colourAt mirror rowOf difference fusion green DH DV GH GV greenAt greens sample
 greens-4095 = tt
 
 -- ---- the table

@@ -9,36 +9,36 @@ use Rattle.bayer.specs.declared.colour.Colour.{Colour}
 use Rattle.bayer.specs.declared.colour.Colour.the-variants.{Red, Green, Blue}
 use Rattle.bayer.specs.Colour.{colours, colourAt}
 use Rattle.bayer.specs.Mirror.{mirror}
-use Rattle.bayer.specs.Refusal.{firstOf, heldAfter}
+use Rattle.bayer.specs.Planes.{Planes}
+use Rattle.bayer.specs.Refusal.{firstOf}
 use Rattle.lists.specs.Part.{rowOf}
 use Rattle.gbtf.specs.Difference.{difference}
 use Rattle.gbtf.specs.Fusion.{fusion, green}
 use Rattle.gbtf.specs.Exact.{sumOver/t², exactGreen}
 use Rattle.gbtf.specs.GreenAt.{DH, DV, GH, GV, greenAt, exactGreenAt}
-use Rattle.gbtf.specs.Weights.{scale, evenWeights}
+use Rattle.green_rule.specs.Greens.{greens, exactGreens}
 use Rattle.demosaic.specs.Sample.{sample}
 use Rattle.demosaic.specs.Exact.{exactSample}
 use Rattle.lists.specs.Bound.{anyAbove}
-use Rattle.strip.specs.Strip.{stripNumber, stripPlane, Promise}
-use Rattle.strip.proofs.StripLaws.{plane-at, promised}
+use Rattle.strip.specs.Strip.{asked, stripNumber, Promise}
+use Rattle.demosaic.proofs.PlaneRowsLaws.{plane-at}
+use Rattle.strip.proofs.Demand2.{accepted-plane}
 use Rattle.figures.specs.Figures.{frame8}
 use Rattle.figures.specs.Sharpness.{readings50}
 
-pub not-50 : Within (natural (sample scale evenWeights frame8 0 readings50 Green 2 2)) (exactSample evenWeights (lit≤ tt) frame8 0 readings50 Green 2 2) 50 100 → ⊥
-unfolding colours colourAt mirror rowOf difference fusion green DH DV GH GV greenAt sumOver/t² exactGreen exactGreenAt sample exactSample
+pub not-50 : Within (natural (sample frame8 0 readings50 Green 2 2)) (exactSample frame8 0 readings50 Green 2 2) 50 100 → ⊥
+unfolding colours colourAt mirror rowOf difference fusion green DH DV GH GV greenAt greens sumOver/t² exactGreen exactGreenAt exactGreens sample exactSample
 not-50 h = le→leb _ _ (h .low)
 
 -- a strip call over the whole frame accepts it
-pub accepted-50 : stripNumber frame8 0 8 readings50 64 64 64 ≡ 0
+pub accepted-50 : stripNumber (asked frame8 0 8 readings50) 64 64 64 ≡ 0
 unfolding firstOf anyAbove stripNumber
 accepted-50 = refl
 
 -- and if it keeps the contract, it delivers that green
-pub delivered-50 : (lent after : Colour → List ℕ) (answer : ℕ) → ((k : Colour) → length (lent k) ≡ 64) → Promise frame8 0 8 readings50 lent answer after
-    → (answer ≡ 0) × (Within (natural (getD (after Green) 18 0)) (exactSample evenWeights (lit≤ tt) frame8 0 readings50 Green 2 2) 50 100 → ⊥)
-unfolding heldAfter
+pub delivered-50 : (lent after : Planes) (answer : ℕ) → ((k : Colour) → length (lent k) ≡ 64) → Promise (asked frame8 0 8 readings50) lent answer after
+    → (answer ≡ 0) × (Within (natural (getD (after Green) 18 0)) (exactSample frame8 0 readings50 Green 2 2) 50 100 → ⊥)
 delivered-50 lent after answer h p =
     let e : answer ≡ 0 = p .number ∙ rw (h Red, h Green, h Blue) accepted-50 in
-    let g : after Green ≡ stripPlane frame8 0 8 readings50 Green = promised p Green ∙ ap (λ n. heldAfter n (stripPlane frame8 0 8 readings50 Green) (lent Green)) e in
-    let v : getD (after Green) 18 0 ≡ sample scale evenWeights frame8 0 readings50 Green 2 2 = ap (λ l. getD l 18 0) g ∙ plane-at frame8 0 8 readings50 Green 2 2 (lit≤ tt) (lit≤ tt) in
-    (e, λ w. not-50 (subst (λ x. Within (natural x) (exactSample evenWeights (lit≤ tt) frame8 0 readings50 Green 2 2) 50 100) v w))
+    let v : getD (after Green) 18 0 ≡ sample frame8 0 readings50 Green 2 2 = ap (λ l. getD l 18 0) (accepted-plane p e Green) ∙ plane-at frame8 0 readings50 0 8 Green 2 2 (lit≤ tt) (lit≤ tt) in
+    (e, λ w. not-50 (subst (λ x. Within (natural x) (exactSample frame8 0 readings50 Green 2 2) 50 100) v w))

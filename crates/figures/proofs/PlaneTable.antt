@@ -9,6 +9,7 @@ use Rattle.lists.specs.Part.{rowOf}
 use Rattle.gbtf.specs.Difference.{difference}
 use Rattle.gbtf.specs.Fusion.{fusion, green}
 use Rattle.gbtf.specs.GreenAt.{DH, DV, GH, GV, greenAt}
+use Rattle.green_rule.specs.Greens.{greens}
 use Rattle.demosaic.specs.Fill.{fill}
 use Rattle.demosaic.specs.Sample.{neighbours, otherFrom, sample}
 use Rattle.lists.specs.Every.{Every}
@@ -30,19 +31,19 @@ planes-hold : (c : PlanesClaim) → T (greensHold c) → ColoursHold c → plane
 planes-hold (givesPlanes f readings red green blue) g t = planes-are f readings (listed f green) (t .0) (t .1) g (listed f red) (listed f blue) (t .2) (t .3)
 
 greens₀ : T (greensHold planes₀)
-unfolding colours colourAt mirror rowOf difference fusion green DH DV GH GV greenAt sample
+unfolding colours colourAt mirror rowOf difference fusion green DH DV GH GV greenAt greens sample
 greens₀ = tt
 
 greens₁ : T (greensHold planes₁)
-unfolding colours colourAt mirror rowOf difference fusion green DH DV GH GV greenAt sample
+unfolding colours colourAt mirror rowOf difference fusion green DH DV GH GV greenAt greens sample
 greens₁ = tt
 
 greens₂ : T (greensHold planes₂)
-unfolding colours colourAt mirror rowOf difference fusion green DH DV GH GV greenAt sample
+unfolding colours colourAt mirror rowOf difference fusion green DH DV GH GV greenAt greens sample
 greens₂ = tt
 
 greens₃ : T (greensHold planes₃)
-unfolding colours colourAt mirror rowOf difference fusion green DH DV GH GV greenAt sample
+unfolding colours colourAt mirror rowOf difference fusion green DH DV GH GV greenAt greens sample
 greens₃ = tt
 
 pub worked-planes-hold : Every planesHold workedPlanes

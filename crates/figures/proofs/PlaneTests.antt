@@ -13,6 +13,7 @@ use Rattle.bayer.specs.declared.colour.Colour.{Colour}
 use Rattle.bayer.specs.declared.colour.Colour.the-variants.{Red, Green, Blue}
 use Rattle.bayer.specs.declared.frame.Frame.{Frame}
 use Rattle.bayer.specs.Mosaic.{Mosaic, continued}
+use Rattle.green_rule.specs.Greens.{greens}
 use Rattle.demosaic.specs.Sample.{sampleFrom, sample}
 use Rattle.demosaic.proofs.SampleInside.{sampleFrom-inside}
 use Rattle.figures.specs.Rule.{ruleSample, all, planeIs, PlanesAre}

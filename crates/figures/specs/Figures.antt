@@ -8,6 +8,7 @@ use lib.IntN.{ℤ, pos, negsuc, _+ℤ_}
 use Rattle.bayer.specs.declared.colour.Colour.{Colour}
 use Rattle.bayer.specs.declared.colour.Colour.the-variants.{Red, Green, Blue}
 use Rattle.bayer.specs.declared.frame.Frame.{Frame}
+use Rattle.bayer.specs.Frame.{frame}
 use Rattle.bayer.specs.Mirror.{mirror}
 use Rattle.gbtf.specs.declared.direction.Direction.{Direction}
 use Rattle.gbtf.specs.Difference.{difference}
@@ -15,7 +16,7 @@ use Rattle.gbtf.specs.Direction.{guarded, direction, t}
 use Rattle.gbtf.specs.Fusion.{smallest, share, shares, sharedDifferences, fusion}
 use Rattle.gbtf.specs.Weights.{scale}
 use Rattle.demosaic.specs.Fill.{fill}
-use Rattle.demosaic.specs.Exact.{printed}
+use Rattle.demosaic.specs.Exact.{printedError}
 use Rattle.figures.specs.Rule.{PlanesAre}
 
 pub data Claim : Type 0 where
@@ -43,15 +44,15 @@ abbrev pub adds : Direction → List Direction → ℤ
 adds d l = fusion (sharedDifferences scale (smallest d l) (d ∷ l)) (shares scale (smallest d l) (d ∷ l)) 5
 
 -- n times over
-abbrev pub times : ℕ → List ℕ → List ℕ
-times zero l = []
-times (suc n) l = l ++ times n l
+abbrev pub repeated : ℕ → List ℕ → List ℕ
+repeated zero l = []
+repeated (suc n) l = l ++ repeated n l
 
 abbrev pub frame8 : Frame
-frame8 = record { width = 8; height = 8; layout = 0 }
+frame8 = frame 8 8 0
 
 abbrev pub readings8 : (red green blue : ℕ) → List ℕ
-readings8 red green blue = times 4 (times 4 (red ∷ green ∷ []) ++ times 4 (green ∷ blue ∷ []))
+readings8 red green blue = repeated 4 (repeated 4 (red ∷ green ∷ []) ++ repeated 4 (green ∷ blue ∷ []))
 
 abbrev pub holds : Claim → Type 0
 holds (differenceIs b c l r p q z) = T (equal (difference b c l r p q) z)
@@ -63,7 +64,7 @@ holds (fusionAdds sum z) =
 holds (fillIs n g sum v) = T (eqb (fill n g sum) v)
 holds (planesOf red green blue R G B) = PlanesAre frame8 (readings8 red green blue) (λ i j. R) (λ i j. G) (λ i j. B)
 holds (mirrorReads size z v) = T (eqb (mirror size z) v)
-holds (printedIs k n) = T (eqb (printed k) n)
+holds (printedIs k n) = T (eqb (printedError k) n)
 
 abbrev pub figures : List Claim
 figures =

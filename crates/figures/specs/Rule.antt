@@ -2,21 +2,20 @@
 use Prim.Native.Nat.{ℕ, zero, suc}
 use mathlib.Core.Bool.{Bool, true, _&&_}
 use mathlib.Core.List.{List}
-use lib.Dec.{T, eqb, lit≤}
+use lib.Dec.{T, eqb}
 use Rattle.whole.specs.Fraction.{Fraction}
 use Rattle.bayer.specs.declared.colour.Colour.{Colour}
 use Rattle.bayer.specs.declared.colour.Colour.the-variants.{Red, Green, Blue}
 use Rattle.bayer.specs.declared.frame.Frame.{Frame}
-use Rattle.gbtf.specs.Weights.{scale, evenWeights}
 use Rattle.demosaic.specs.Sample.{sample}
 use Rattle.demosaic.specs.Exact.{exactSample}
 
 -- plane k of a frame at row i and column j, by the whole-number rules and in the exact reconstruction
 abbrev pub ruleSample : Frame → (readings : List ℕ) (k : Colour) (i j : ℕ) → ℕ
-ruleSample f readings k i j = sample scale evenWeights f 0 readings k i j
+ruleSample f readings k i j = sample f 0 readings k i j
 
 abbrev pub ruleExact : Frame → (readings : List ℕ) (k : Colour) (i j : ℕ) → Fraction
-ruleExact f readings k i j = exactSample evenWeights (lit≤ tt) f 0 readings k i j
+ruleExact f readings k i j = exactSample f 0 readings k i j
 
 -- for each number below n
 abbrev pub all : ℕ → (ℕ → Bool) → Bool

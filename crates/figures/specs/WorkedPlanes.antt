@@ -2,10 +2,11 @@
 use Prim.Native.Nat.{ℕ}
 use mathlib.Core.List.{List, [], _∷_}
 use Rattle.bayer.specs.declared.frame.Frame.{Frame}
+use Rattle.bayer.specs.Frame.{frame}
 use Rattle.figures.specs.Worked.{PlanesClaim, givesPlanes}
 
 abbrev pub frame₀ : Frame
-frame₀ = record { width = 9; height = 8; layout = 0 }
+frame₀ = frame 9 8 0
 
 abbrev pub readings₀ : List ℕ
 readings₀ =
@@ -59,7 +60,7 @@ abbrev pub planes₀ : PlanesClaim
 planes₀ = givesPlanes frame₀ readings₀ red₀ green₀ blue₀
 
 abbrev pub frame₁ : Frame
-frame₁ = record { width = 8; height = 9; layout = 1 }
+frame₁ = frame 8 9 1
 
 abbrev pub readings₁ : List ℕ
 readings₁ =
@@ -117,7 +118,7 @@ abbrev pub planes₁ : PlanesClaim
 planes₁ = givesPlanes frame₁ readings₁ red₁ green₁ blue₁
 
 abbrev pub frame₂ : Frame
-frame₂ = record { width = 9; height = 9; layout = 2 }
+frame₂ = frame 9 9 2
 
 abbrev pub readings₂ : List ℕ
 readings₂ =
@@ -175,7 +176,7 @@ abbrev pub planes₂ : PlanesClaim
 planes₂ = givesPlanes frame₂ readings₂ red₂ green₂ blue₂
 
 abbrev pub frame₃ : Frame
-frame₃ = record { width = 8; height = 8; layout = 3 }
+frame₃ = frame 8 8 3
 
 abbrev pub readings₃ : List ℕ
 readings₃ =

@@ -3,3 +3,4 @@ pub mod Mean
 pub mod GreenError
 pub mod GreenBound
 pub mod GreenLocal
+pub mod GreenRange

@@ -12,13 +12,12 @@ use Rattle.bayer.specs.declared.frame.Frame.{Frame}
 use Rattle.bayer.specs.Mirror.{mirror}
 use Rattle.lists.specs.Part.{rowOf, part}
 use Rattle.gbtf.specs.Difference.{difference, gradient}
-use Rattle.bayer.specs.Mosaic.{continued}
-use Rattle.gbtf.specs.GreenAt.{greenAt}
 use Rattle.gbtf.specs.Weights.{scale, evenWeights}
 use Rattle.lists.specs.Table.{table, joined}
 use Rattle.bayer.specs.Parity.{isOdd, startsGreen}
 use Rattle.green_rows.specs.Buffer.{differenceIn, gradientIn, greenIn}
 use Rattle.lists.specs.Bound.{AllAtMost, AllWithin}
+use Rattle.green_rule.specs.Greens.{greens, greenRow}
 use Rattle.green_blocks.specs.Block.{greenRowIn}
 use Rattle.green_rows.specs.Extended.{column, extendedRow, Lent}
 use Rattle.lists.proofs.TableLaws.{length-table, table-same, table-part}
@@ -199,7 +198,8 @@ module _ {f : Frame} {first : ℕ} {rows : List ℕ} {v b s o : ℕ} {x : List �
 
   pub block-fused : {out : List ℕ}
       → out ≡ joined (greenRowIn scale evenWeights (f .width) s o own (take (m + 2 * s - 0) d) (take (length d - (m + 2 * s)) (drop (m + 2 * s) d)) (take (m + 2 * s - 2 - 0) g) (take (length g - (m + 2 * s - 2)) (drop (m + 2 * s - 2) g))) b
-      → out ≡ joined (λ i. table (λ j. greenAt evenWeights (continued f first rows) (pos (v + i)) (pos j) scale) (f .width)) b
+      → out ≡ joined (λ i. greenRow f first rows (v + i)) b
+  unfolding greens
   block-fused h =
       h ∙ rw (along, down, across, steep) (joined-same _ _ b (λ i k. ap (λ l. table (greenIn scale evenWeights s ((o + i) % 2) l (part (i * s) (3 * s) dh) (part (i * s) (9 * s) dv) (part (i * s) (3 * s - 2) gh) (part (i * s) (5 * s) gv)) (f .width)) (own-row i k) ∙ fused (given i k)))
 

@@ -5,8 +5,6 @@ ghost use mathlib.Core.List.{_++_};
 ghost use Prim.Native.Nat.{ℕ, _+_, _*_, _-_, _%_, _≤_, _<_};
 ghost use lib.IntN.{pos};
 ghost use lib.ListN.{length};
-ghost use Rattle.bayer.specs.Mosaic.{continued};
-ghost use Rattle.gbtf.specs.GreenAt.{greenAt};
 ghost use Rattle.gbtf.specs.Weights.{scale, evenWeights};
 ghost use Rattle.lists.specs.Table.{table, joined};
 ghost use Rattle.lists.specs.Part.{part};
@@ -14,6 +12,7 @@ ghost use Rattle.green_rows.specs.Buffer.{differenceIn, gradientIn};
 ghost use Rattle.lists.specs.Bound.{AllAtMost, AllWithin};
 ghost use Rattle.green_rows.specs.Extended.{Lent};
 ghost use Rattle.green_blocks.specs.Block.{greenRowIn};
+ghost use Rattle.green_rule.specs.Greens.{greenRow};
 use crate::fetch::fetch;
 use bayer::frame::Frame;
 use bayer::parity::starts_green;
@@ -109,7 +108,7 @@ pub fn green_block(
     requires { ⌜ ((i : ℕ) → i < b → Lent frame start (length (now piece)) (v + i)) × (0 < b) × (b ≤ 4) × (frame .layout ≤ 3) × (AllAtMost 4095 (now piece)) ⌝ }
     requires { ⌜ (s % 2 ≡ 1) × (frame .width + 14 ≤ s) × (s ≤ frame .width + 15) ⌝ }
     requires { ⌜ (length (now x) ≡ b * s + 12 * s) × (length (now d) ≡ b * s + 2 * s + (b * s + 8 * s)) × (length (now g) ≡ b * s + 2 * s - 2 + (b * s + 4 * s)) × (length (now t) ≡ 4 * frame .width) × (length (now f) ≡ 4 * frame .width) × (length (now out) ≡ b * frame .width) ⌝ }
-    ensures { λ _. ⌜ now (out .exit) ≡ joined (λ i. table (λ j. greenAt evenWeights (continued frame start (now (piece .entry))) (pos (v + i)) (pos j) scale) (frame .width)) b ⌝ }
+    ensures { λ _. ⌜ now (out .exit) ≡ joined (λ i. greenRow frame start (now (piece .entry)) (v + i)) b ⌝ }
 {
     let w = frame.width;
     let odd = starts_green(frame.layout, v);

@@ -2,12 +2,11 @@ ghost use mathlib.Core.Path.{_≡_};
 ghost use Prim.Native.Nat.{ℕ, _+_, _*_, _%_, _≤_, _<_, min};
 ghost use lib.IntN.{pos};
 ghost use lib.ListN.{length};
-ghost use Rattle.bayer.specs.Mosaic.{continued};
-ghost use Rattle.gbtf.specs.GreenAt.{greenAt};
-ghost use Rattle.gbtf.specs.Weights.{scale, evenWeights};
 ghost use Rattle.lists.specs.Table.{table, joined};
 ghost use Rattle.lists.specs.Bound.{AllAtMost};
 ghost use Rattle.green_rows.specs.Extended.{Lent};
+ghost use Rattle.green_rule.specs.Greens.{greenRow};
+ghost use Rattle.green_blocks.specs.Room.{Room};
 use crate::block::green_block;
 use bayer::frame::Frame;
 
@@ -44,7 +43,7 @@ fn green_block_in(
     requires { ⌜ ((i : ℕ) → i < b → Lent frame start (length (now piece)) (v + i)) × (0 < b) × (b ≤ 4) × (frame .layout ≤ 3) × (AllAtMost 4095 (now piece)) ⌝ }
     requires { ⌜ (s % 2 ≡ 1) × (frame .width + 14 ≤ s) × (s ≤ frame .width + 15) ⌝ }
     requires { ⌜ (16 * s ≤ length (now x)) × (18 * s ≤ length (now d)) × (14 * s ≤ length (now g)) × (4 * frame .width ≤ length (now t)) × (4 * frame .width ≤ length (now f)) × (length (now out) ≡ b * frame .width) ⌝ }
-    ensures { λ _. ⌜ now (out .exit) ≡ joined (λ i. table (λ j. greenAt evenWeights (continued frame start (now (piece .entry))) (pos (v + i)) (pos j) scale) (frame .width)) b ⌝ }
+    ensures { λ _. ⌜ now (out .exit) ≡ joined (λ i. greenRow frame start (now (piece .entry)) (v + i)) b ⌝ }
 {
     let m = b * s;
     let xs = m + 12 * s;
@@ -67,8 +66,7 @@ fn green_block_in(
     );
 }
 
-// Green of rows a to a + n - 1, block after block. The room is for blocks of 4 rows of 4111 places: 16 rows of readings, 18 of differences, 14 of gradients, and the
-// sums of the four directions for one row.
+// Green of rows a to a + n - 1, block after block, in room for the readings, differences and gradients of a block and for a row's sums and five-sums.
 pub fn green_rows(
     frame: Frame,
     start: usize,
@@ -84,8 +82,8 @@ pub fn green_rows(
 )
     requires { ⌜ ((i : ℕ) → i < n → Lent frame start (length (now piece)) (a + i)) × (frame .layout ≤ 3) × (AllAtMost 4095 (now piece)) ⌝ }
     requires { ⌜ (n ≤ 4096) × (a ≤ 4096) × (frame .width ≤ 4096) ⌝ }
-    requires { ⌜ (65776 ≤ length (now x)) × (73998 ≤ length (now d)) × (57554 ≤ length (now g)) × (16384 ≤ length (now t)) × (16384 ≤ length (now f)) × (length (now out) ≡ n * frame .width) ⌝ }
-    ensures { λ _. ⌜ now (out .exit) ≡ joined (λ i. table (λ j. greenAt evenWeights (continued frame start (now (piece .entry))) (pos (a + i)) (pos j) scale) (frame .width)) n ⌝ }
+    requires { ⌜ (Room (frame .width) (length (now x)) (length (now d)) (length (now g)) (length (now t)) (length (now f))) × (length (now out) ≡ n * frame .width) ⌝ }
+    ensures { λ _. ⌜ now (out .exit) ≡ joined (λ i. greenRow frame start (now (piece .entry)) (a + i)) n ⌝ }
 {
     let w = frame.width;
     let s = stride(w);

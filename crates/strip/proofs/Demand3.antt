@@ -23,42 +23,43 @@ use Rattle.bayer.specs.Planes.{Planes, threePlanes}
 use Rattle.calls.specs.Calls.{Call, accepted, refused, Rows, Step, Runs, Covers, Covered, After}
 use Rattle.calls.proofs.CallList.{after-calls}
 use Rattle.bayer.specs.Mosaic.{Mosaic, continued}
-use Rattle.gbtf.specs.GreenAt.{greenAt}
-use Rattle.gbtf.specs.Weights.{scale, evenWeights}
-use Rattle.demosaic.specs.Sample.{otherFrom, sampleFrom, sample}
-use Rattle.demosaic.specs.Exact.{exactSample, printed}
+use Rattle.green_rule.proofs.GreensLaws.{greens-observed}
+use Rattle.demosaic.specs.Sample.{otherFrom, sample}
+use Rattle.demosaic.specs.Exact.{exactSample, printedError}
 use Rattle.demosaic.proofs.SampleError.{printed-error}
 use Rattle.demosaic.proofs.FrameLocal.{piece-sample, piece-exactSample}
-use Rattle.strip.specs.Strip.{stripPlane, Promise}
-use Rattle.bayer.specs.Refusal.{heldAfter}
+use Rattle.demosaic.proofs.PlaneRowsLaws.{plane-length, plane-at}
+use Rattle.strip.specs.Strip.{Asked, asked, stripPlane, Promise}
+use Rattle.bayer.proofs.RefusalLaws.{refused-holds}
 use Rattle.strip.specs.Demand.{StripCall, numberOf, Accepted, OfFrame, Called, CalledAll, CoveredBy, Demanded, Cited}
-use Rattle.strip.proofs.StripLaws.{Fits, fits, plane-length, plane-at, promised}
+use Rattle.strip.proofs.StripLaws.{Fits, fits}
+use Rattle.strip.proofs.Demand2.{promised, accepted-plane}
 
 abbrev lent : StripCall → Planes → Colour → List ℕ
 lent c p k = part (c .from k) (c .size k) (p k)
 
 -- the calls, told apart
 abbrev callBy : ℕ → StripCall → Call
-callBy zero c = accepted (c .first) (c .count)
+callBy zero c = accepted (c .asked .first) (c .asked .count)
 callBy (suc n) c = refused (c .from) (c .size)
 
 abbrev callOf : StripCall → Call
 callOf c = callBy (numberOf c) c
 
--- in the plane of its own colour, and for green, a pixel has 16 times its reading
-own-colour : (K : ℕ) (ws : List ℕ) (f : Frame) (m : Mosaic) (k : Colour) (i j : ℤ) → m .colour i j ≡ k → sampleFrom f m (λ i j. greenAt ws m i j K) k i j ≡ 16 * m .reading i j
-unfolding otherFrom greenAt
-own-colour K ws f m Red i j e = rw e
-own-colour K ws f m Green i j e = rw e
-own-colour K ws f m Blue i j e = rw e
+-- in the plane of its own colour a pixel has 16 times its reading
+own-colour : (f : Frame) (first : ℕ) (rows : List ℕ) (k : Colour) (i j : ℕ) → continued f first rows .colour (pos i) (pos j) ≡ k → sample f first rows k i j ≡ 16 * continued f first rows .reading (pos i) (pos j)
+unfolding sample otherFrom
+own-colour f first rows Red i j e = rw e
+own-colour f first rows Green i j e = greens-observed f first rows (pos i) (pos j) (rw e)
+own-colour f first rows Blue i j e = rw e
 
 module _ (f : Frame) (readings : List ℕ) where
   abbrev rule : Colour → ℕ → ℕ → ℕ
-  rule k i j = sample scale evenWeights f 0 readings k i j
+  rule k i j = sample f 0 readings k i j
 
   -- the code's contract is all that a call of a list needs
   pub called : (c : StripCall) (p : Planes) {answer : ℕ} {red green blue : List ℕ} → (Accepted c → OfFrame f readings c) → ((k : Colour) → c .from k + c .size k ≤ length (p k))
-      → Promise (c .frame) (c .first) (c .count) (c .piece) (threePlanes (lent c p Red) (lent c p Green) (lent c p Blue)) answer (threePlanes red green blue) → Called f readings c p (λ k. put (c .from k) (threePlanes red green blue k) (p k))
+      → Promise (c .asked) (threePlanes (lent c p Red) (lent c p Green) (lent c p Blue)) answer (threePlanes red green blue) → Called f readings c p (λ k. put (c .from k) (threePlanes red green blue k) (p k))
   called c p {answer} {red} {green} {blue} premise inside promise = record {
     premise = premise;
     inside = inside;
@@ -74,33 +75,38 @@ module _ (f : Frame) (readings : List ℕ) where
   answers : (c : StripCall) {p q : Planes} (d : Called f readings c p q) → d .answer ≡ numberOf c
   answers c d = d .promise .number ∙ rw (lent-length c d Red, lent-length c d Green, lent-length c d Blue)
 
-  -- what an accepted call of this frame is known to fit
-  fits-frame : (c : StripCall) → Accepted c → OfFrame f readings c → Fits f (c .first) (c .count) (c .piece) (c .size Red) (c .size Green) (c .size Blue)
-  fits-frame c e o = subst (λ g. Fits g (c .first) (c .count) (c .piece) (c .size Red) (c .size Green) (c .size Blue)) (o .frame) (fits (c .frame) (c .first) (c .count) (c .piece) _ _ _ e)
+  -- what an accepted call of this frame asks for
+  abbrev ours : StripCall → Asked
+  ours c = asked f (c .asked .first) (c .asked .count) (pieceOf (f .width) (f .height) (c .asked .first) (c .asked .count) readings)
 
-  -- an accepted call delivers the rule's rows
-  delivered : (c : StripCall) {p q : Planes} (d : Called f readings c p q) → Accepted c → (o : OfFrame f readings c) → (k : Colour) → d .after k ≡ stripPlane f (c .first) (c .count) (pieceOf (f .width) (f .height) (c .first) (c .count) readings) k
-  unfolding heldAfter
-  delivered c {p} d e o k =
-      promised (d .promise) k ∙ ap (λ n. heldAfter n (stripPlane (c .frame) (c .first) (c .count) (c .piece) k) (lent c p k)) (answers c d ∙ e)
-      ∙ ap₂ (λ g x. stripPlane g (c .first) (c .count) x k) (o .frame) (o .piece)
+  asks : (c : StripCall) → OfFrame f readings c → c .asked ≡ ours c
+  asks c o = ap₂ (λ g x. asked g (c .asked .first) (c .asked .count) x) (o .frame) (o .piece)
 
-  rows-of : (c : StripCall) → (w : Fits f (c .first) (c .count) (c .piece) (c .size Red) (c .size Green) (c .size Blue)) → (k : Colour) → Rows (f .width) rule k (c .first) (c .count) (stripPlane f (c .first) (c .count) (pieceOf (f .width) (f .height) (c .first) (c .count) readings) k)
-  rows-of c w k = record {
-    size = plane-length f (c .first) (c .count) _ k;
-    each = λ i j h g. plane-at f (c .first) (c .count) _ k i j h g ∙ piece-sample f (c .first) (c .count) (c .first + i) (w .high) (w .rows) (omega arith) (omega arith) scale evenWeights readings k j;
-  }
+  fits-ours : (c : StripCall) → Accepted c → OfFrame f readings c → Fits (ours c) (c .size Red) (c .size Green) (c .size Blue)
+  fits-ours c e o = fits (ours c) _ _ _ (rw (← asks c o) e)
+
+  -- it delivers the rule's rows
+  delivered : (c : StripCall) {p q : Planes} (d : Called f readings c p q) → Accepted c → OfFrame f readings c → (k : Colour) → d .after k ≡ stripPlane (ours c) k
+  delivered c d e o k = accepted-plane (d .promise) (answers c d ∙ e) k ∙ ap (λ x. stripPlane x k) (asks c o)
+
+  rows-of : (c : StripCall) → Fits (ours c) (c .size Red) (c .size Green) (c .size Blue) → (k : Colour) → Rows (f .width) rule k (c .asked .first) (c .asked .count) (stripPlane (ours c) k)
+  rows-of c w k =
+      let a = c .asked .first in
+      let n = c .asked .count in
+      record {
+        size = plane-length f (pieceStart a) _ a n k;
+        each = λ i j h g. plane-at f (pieceStart a) _ a n k i j h g ∙ piece-sample f a n (a + i) (w .frame .high) (w .rows) (omega arith) (omega arith) readings k j;
+      }
 
   step : (c : StripCall) (p q : Planes) → Called f readings c p q → Step (f .width) (f .height) rule (callOf c) p q
-  unfolding heldAfter
   step c p q d = go (numberOf c) refl
     where
       go : (n : ℕ) → numberOf c ≡ n → Step (f .width) (f .height) rule (callBy n c) p q
       go zero e =
           let o = d .premise e in
-          let w = fits-frame c e o in
-          (w .rows, λ k. (stripPlane f (c .first) (c .count) (pieceOf (f .width) (f .height) (c .first) (c .count) readings) k, rows-of c w k, d .rest k ∙ ap₂ (λ s x. put s x (p k)) (o .rows k) (delivered c d e o k)))
-      go (suc n) e = λ k. (d .inside k, d .rest k ∙ ap (λ x. put (c .from k) x (p k)) (promised (d .promise) k ∙ ap (λ n. heldAfter n (stripPlane (c .frame) (c .first) (c .count) (c .piece) k) (lent c p k)) (answers c d ∙ e)))
+          let w = fits-ours c e o in
+          (w .rows, λ k. (stripPlane (ours c) k, rows-of c w k, d .rest k ∙ ap₂ (λ s x. put s x (p k)) (o .rows k) (delivered c d e o k)))
+      go (suc n) e = λ k. (d .inside k, d .rest k ∙ ap (λ x. put (c .from k) x (p k)) (promised (d .promise) k ∙ refused-holds (d .answer) _ _ (λ z. omega (arith, sym (answers c d ∙ e) ∙ z))))
 
   runs : (l : List StripCall) (p q : Planes) → CalledAll f readings l p q → Runs (f .width) (f .height) rule (map callOf l) p q
   runs [] p q h = h
@@ -118,28 +124,27 @@ module _ (f : Frame) (readings : List ℕ) where
   from : (l : List StripCall) (i : ℕ) → Covered (map callOf l) i → CoveredBy l i
   from (c ∷ l) i (inl v) = inl (go (numberOf c) refl v)
     where
-      go : (n : ℕ) → numberOf c ≡ n → Covers (callBy n c) i → Accepted c × (c .first ≤ i) × (i < c .first + c .count)
+      go : (n : ℕ) → numberOf c ≡ n → Covers (callBy n c) i → Accepted c × (c .asked .first ≤ i) × (i < c .asked .first + c .asked .count)
       go zero e v = (e, v .0, v .1)
       go (suc n) e v = absurd v
   from (c ∷ l) i (inr v) = inr (from l i v)
 
   -- the readings that a covering call read are in range, and the rule and the exact form of its rows depend on no others
-  near-exact : (l : List StripCall) (p q : Planes) → CalledAll f readings l p q → (k : Colour) (i j : ℕ) → CoveredBy l i → Within (natural (rule k i j)) (exactSample evenWeights (lit≤ tt) f 0 readings k i j) (printed k) 100
+  near-exact : (l : List StripCall) (p q : Planes) → CalledAll f readings l p q → (k : Colour) (i j : ℕ) → CoveredBy l i → Within (natural (rule k i j)) (exactSample f 0 readings k i j) (printedError k) 100
   near-exact (c ∷ l) p q h k i j (inr v) = near-exact l (h .0) q (h .2) k i j v
   near-exact (c ∷ l) p q h k i j (inl v) =
       let o = h .1 .premise (v .0) in
-      let w = fits-frame c (v .0) o in
-      rw (piece-sample f (c .first) (c .count) i (w .high) (w .rows) (v .1) (v .2) scale evenWeights readings k j, piece-exactSample f (c .first) (c .count) i (w .high) (w .rows) (v .1) (v .2) evenWeights (lit≤ tt) readings k j)
-      at (printed-error f (pieceStart (c .first)) (pieceOf (f .width) (f .height) (c .first) (c .count) readings) (λ n. subst (λ x. getD x n 0 ≤ 4095) (o .piece) (w .range n)) k i j)
+      let w = fits-ours c (v .0) o in
+      rw (piece-sample f (c .asked .first) (c .asked .count) i (w .frame .high) (w .rows) (v .1) (v .2) readings k j, piece-exactSample f (c .asked .first) (c .asked .count) i (w .frame .high) (w .rows) (v .1) (v .2) readings k j)
+      at (printed-error f (pieceStart (c .asked .first)) (ours c .piece) (w .range) k i j)
 
   covered-in : (l : List StripCall) (p q : Planes) → CalledAll f readings l p q → (i : ℕ) → CoveredBy l i → i < f .height
   covered-in (c ∷ l) p q h i (inr v) = covered-in l (h .0) q (h .2) i v
-  covered-in (c ∷ l) p q h i (inl v) = let w = fits-frame c (v .0) (h .1 .premise (v .0)) in omega (arith, w .rows, v .2)
+  covered-in (c ∷ l) p q h i (inl v) = let w = fits-ours c (v .0) (h .1 .premise (v .0)) in omega (arith, w .rows, v .2)
 
   -- the observed sample is 16 times the reading
   observed-rule : (i j : ℕ) → i < f .height → j < f .width → rule (colourAt (f .layout) i j) i j ≡ 16 * getD readings (i * f .width + j) 0
-  unfolding sample
-  observed-rule i j hi hj = own-colour scale evenWeights f (continued f 0 readings) (colourAt (f .layout) i j) (pos i) (pos j) (ap₂ (colourAt (f .layout)) row col) ∙ ap (λ x. 16 * x) read
+  observed-rule i j hi hj = own-colour f 0 readings (colourAt (f .layout) i j) i j (ap₂ (colourAt (f .layout)) row col) ∙ ap (λ x. 16 * x) read
     where
       row : mirror (f .height) (pos i) ≡ i
       row = mirror-inside (f .height) i hi

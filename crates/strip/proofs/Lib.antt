@@ -1,6 +1,3 @@
-pub mod GreenAmong
-pub mod ColourRow
 pub mod StripLaws
-pub mod LentLaws
-pub mod PlaneLaws
+pub mod Demand2
 pub mod Demand3

@@ -3,7 +3,6 @@ use Prim.Native.Nat.{ℕ, _+_, _*_, _≤_, _<_}
 use mathlib.Core.Path.{_≡_}
 use mathlib.Core.Logic.{_⊎_}
 use mathlib.Core.List.{List, [], _∷_}
-use lib.Dec.{lit≤}
 use lib.ListN.{length, getD}
 use Rattle.whole.specs.Fraction.{natural, Within}
 use Rattle.bayer.specs.declared.colour.Colour.{Colour}
@@ -13,30 +12,26 @@ use Rattle.bayer.specs.Colour.{colourAt}
 use Rattle.bayer.specs.Piece.{pieceOf}
 use Rattle.bayer.specs.Planes.{Planes}
 use Rattle.lists.specs.Part.{part, put}
-use Rattle.gbtf.specs.Weights.{evenWeights}
-use Rattle.demosaic.specs.Exact.{exactSample, printed}
-use Rattle.strip.specs.Strip.{stripNumber, Promise}
+use Rattle.demosaic.specs.Exact.{exactSample, printedError}
+use Rattle.strip.specs.Strip.{Asked, stripNumber, Promise}
 
--- a call: what it names, the piece it brings, and the part of each plane that it is lent
+-- a call: what it asks for, and the part of each plane that it is lent
 pub record StripCall : Type 0 where
-  pub frame : Frame
-  pub first : ℕ
-  pub count : ℕ
-  pub piece : List ℕ
+  pub asked : Asked
   pub from : Colour → ℕ
   pub size : Colour → ℕ
 
 abbrev pub numberOf : StripCall → ℕ
-numberOf c = stripNumber (c .frame) (c .first) (c .count) (c .piece) (c .size Red) (c .size Green) (c .size Blue)
+numberOf c = stripNumber (c .asked) (c .size Red) (c .size Green) (c .size Blue)
 
 abbrev pub Accepted : StripCall → Type 0
 Accepted c = numberOf c ≡ 0
 
 -- of an accepted call: it names the frame f, brings the rows of its readings, and is lent its own rows of each plane
 pub record OfFrame (f : Frame) (readings : List ℕ) (c : StripCall) : Type 0 where
-  pub frame : c .frame ≡ f
-  pub piece : c .piece ≡ pieceOf (f .width) (f .height) (c .first) (c .count) readings
-  pub rows : (k : Colour) → c .from k ≡ c .first * f .width
+  pub frame : c .asked .frame ≡ f
+  pub piece : c .asked .piece ≡ pieceOf (f .width) (f .height) (c .asked .first) (c .asked .count) readings
+  pub rows : (k : Colour) → c .from k ≡ c .asked .first * f .width
 
 -- a call finds the planes p and leaves q. Nothing but its contract is known of it, and the premise is asked of accepted calls only
 pub record Called (f : Frame) (readings : List ℕ) (c : StripCall) (p q : Planes) : Type 0 where
@@ -44,7 +39,7 @@ pub record Called (f : Frame) (readings : List ℕ) (c : StripCall) (p q : Plane
   pub inside : (k : Colour) → c .from k + c .size k ≤ length (p k)
   pub answer : ℕ
   pub after : Planes
-  pub promise : Promise (c .frame) (c .first) (c .count) (c .piece) (λ k. part (c .from k) (c .size k) (p k)) answer after
+  pub promise : Promise (c .asked) (λ k. part (c .from k) (c .size k) (p k)) answer after
   pub rest : (k : Colour) → q k ≡ put (c .from k) (after k) (p k)
 
 -- a list of calls, each of which finds what the one before it left
@@ -55,16 +50,16 @@ CalledAll f readings (c ∷ l) p q = (m : Planes) × Called f readings c p m × 
 -- an accepted call of the list covers row i
 abbrev pub CoveredBy : List StripCall → (i : ℕ) → Type 0
 CoveredBy [] i = ⊥
-CoveredBy (c ∷ l) i = (Accepted c × (c .first ≤ i) × (i < c .first + c .count)) ⊎ CoveredBy l i
+CoveredBy (c ∷ l) i = (Accepted c × (c .asked .first ≤ i) × (i < c .asked .first + c .asked .count)) ⊎ CoveredBy l i
 
 -- in every covered row the samples of plane k are within so many hundredths of the exact reconstruction of the frame
 abbrev pub NearExact : Frame → (readings : List ℕ) → List StripCall → (q : Planes) (k : Colour) (hundredths : ℕ) → Type 0
-NearExact f readings l q k hundredths = (i j : ℕ) → CoveredBy l i → j < f .width → Within (natural (getD (q k) (i * f .width + j) 0)) (exactSample evenWeights (lit≤ tt) f 0 readings k i j) hundredths 100
+NearExact f readings l q k hundredths = (i j : ℕ) → CoveredBy l i → j < f .width → Within (natural (getD (q k) (i * f .width + j) 0)) (exactSample f 0 readings k i j) hundredths 100
 
 -- DEMAND 3, of the planes p before the list and q after it
 pub record Demanded (f : Frame) (readings : List ℕ) (l : List StripCall) (p q : Planes) : Type 0 where
   -- each plane is within its printed hundredths
-  pub near : (k : Colour) → NearExact f readings l q k (printed k)
+  pub near : (k : Colour) → NearExact f readings l q k (printedError k)
   -- in a covered row the observed sample is 16 times the reading
   pub observed : (i j : ℕ) → CoveredBy l i → j < f .width → getD (q (colourAt (f .layout) i j)) (i * f .width + j) 0 ≡ 16 * getD readings (i * f .width + j) 0
   -- every other row is as before

@@ -1,3 +1,2 @@
 pub mod Strip
-pub mod Rows
 pub mod Demand

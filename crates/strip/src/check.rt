@@ -1,7 +1,8 @@
 ghost use mathlib.Core.Path.{_≡_};
-ghost use mathlib.Core.Bool.{not, _||_};
-ghost use lib.Dec.{eqb};
-ghost use Rattle.strip.specs.Strip.{stripNumber};
+ghost use mathlib.Core.List.{_++_};
+ghost use Rattle.bayer.specs.Condition.{frameCases, rowsCases, rangeCases};
+ghost use Rattle.bayer.specs.Refusal.{firstOf};
+ghost use Rattle.strip.specs.Strip.{asked, planesMisfit, lengthCases, stripNumber};
 use bayer::check::frame_check;
 use bayer::check::rows_outside;
 use bayer::frame::Frame;
@@ -12,9 +13,23 @@ use bayer::refusal::WRONG_PIECE_LENGTH;
 use bayer::refusal::WRONG_PLANE_LENGTH;
 use lists::above::any_above;
 
+// Refusals 1, 2 and 3: of what a call names.
+fn named_check(frame: Frame, a: usize, n: usize) -> u32
+    ensures { λ r. ⌜ r ≡ firstOf (frameCases frame ++ rowsCases frame a n) ⌝ }
+{
+    let number = frame_check(frame);
+    if number != 0 {
+        return number;
+    }
+    if rows_outside(frame.height, a, n) {
+        return ROWS_OUTSIDE_FRAME;
+    }
+    0
+}
+
 // Whether one of the planes is not so long.
 fn planes_misfit(size: usize, red: usize, green: usize, blue: usize) -> bool
-    ensures { λ r. ⌜ r ≡ (not (eqb red size) || (not (eqb green size) || not (eqb blue size))) ⌝ }
+    ensures { λ r. ⌜ r ≡ planesMisfit size red green blue ⌝ }
 {
     if red != size {
         return true;
@@ -25,7 +40,34 @@ fn planes_misfit(size: usize, red: usize, green: usize, blue: usize) -> bool
     blue != size
 }
 
-// The number of a strip call: 0, or its refusal. Refusal 6 comes last, as it reads the piece. Nothing is written.
+// Refusals 4, 5 and 6: of what a call is lent. 6 comes last, as it reads the piece.
+fn lent_check(
+    frame: Frame,
+    a: usize,
+    n: usize,
+    piece: &[u16],
+    red: usize,
+    green: usize,
+    blue: usize,
+) -> u32
+    requires { ⌜ firstOf (frameCases frame ++ rowsCases frame a n) ≡ 0 ⌝ }
+    ensures { λ r. ⌜ r ≡ firstOf (lengthCases (asked frame a n (now (piece .entry))) red green blue ++ rangeCases (now (piece .entry))) ⌝ }
+{
+    let w = frame.width;
+    let length = piece_rows(frame.height, a, n) * w;
+    if piece.len() != length {
+        return WRONG_PIECE_LENGTH;
+    }
+    if planes_misfit(n * w, red, green, blue) {
+        return WRONG_PLANE_LENGTH;
+    }
+    if any_above(4095, piece) {
+        return READING_OUT_OF_RANGE;
+    }
+    0
+}
+
+// The number of a strip call: 0, or its refusal. Nothing is written.
 pub fn strip_check(
     frame: Frame,
     a: usize,
@@ -35,27 +77,11 @@ pub fn strip_check(
     green: usize,
     blue: usize,
 ) -> u32
-    ensures { λ r. ⌜ r ≡ stripNumber frame a n (now (piece .entry)) red green blue ⌝ }
+    ensures { λ r. ⌜ r ≡ stripNumber (asked frame a n (now (piece .entry))) red green blue ⌝ }
 {
-    let number = frame_check(frame);
+    let number = named_check(frame, a, n);
     if number != 0 {
         return number;
     }
-    let w = frame.width;
-    let h = frame.height;
-    if rows_outside(h, a, n) {
-        return ROWS_OUTSIDE_FRAME;
-    }
-    let length = piece_rows(h, a, n) * w;
-    if piece.len() != length {
-        return WRONG_PIECE_LENGTH;
-    }
-    let size = n * w;
-    if planes_misfit(size, red, green, blue) {
-        return WRONG_PLANE_LENGTH;
-    }
-    if any_above(4095, piece) {
-        return READING_OUT_OF_RANGE;
-    }
-    0
+    lent_check(frame, a, n, piece, red, green, blue)
 }

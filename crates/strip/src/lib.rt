@@ -1,5 +1,3 @@
 // Strip calls: red, green and blue of some rows of a frame, from a piece of its mosaic.
 pub mod check;
-pub mod colours;
-pub mod greens;
 pub mod strip;

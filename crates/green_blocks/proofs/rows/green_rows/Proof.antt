@@ -7,11 +7,9 @@ use mathlib.Core.Path.{_≡_, refl, ap, subst, _∙_}
 use lib.IntN.{pos}
 use lib.ListN.{length}
 use Rattle.bayer.specs.declared.frame.Frame.{Frame}
-use Rattle.bayer.specs.Mosaic.{continued}
-use Rattle.gbtf.specs.GreenAt.{greenAt}
+use Rattle.green_rule.specs.Greens.{greenRow}
 use Rattle.lists.specs.Table.{table, joined}
 use Rattle.green_rows.specs.Extended.{Lent}
-use Rattle.gbtf.specs.Weights.{scale, evenWeights}
 use Rattle.lists.proofs.TableLaws.{length-table}
 use Rattle.lists.proofs.JoinedLaws.{joined-same, Handed, joined-none, joined-turns, joined-done}
 use Rattle.lists.proofs.PartLaws.{part-length}
@@ -20,7 +18,7 @@ use Rattle.green_blocks.proofs.rows.green_rows.Tie as tie
 
 -- green of row a + i
 abbrev rows : (f : Frame) (start : ℕ) (piece : List ℕ) (a i : ℕ) → List ℕ
-rows f start piece a i = table (λ j. greenAt evenWeights (continued f start piece) (pos (a + i)) (pos j) scale) (f .width)
+rows f start piece a i = greenRow f start piece (a + i)
 
 row-length : (f : Frame) (start : ℕ) (piece : List ℕ) (a i : ℕ) → length (rows f start piece a i) ≡ f .width
 row-length f start piece a i = length-table _ (f .width)
@@ -30,7 +28,7 @@ lent-from : (f : Frame) (start m a i b n : ℕ) → i + b ≤ n → ((k : ℕ) �
 lent-from f start m a i b n h lent k l = let e : a + (i + k) ≡ a + i + k = omega arith in subst (Lent f start m) e (lent (i + k) (omega arith))
 
 rows-from : (f : Frame) (start : ℕ) (piece : List ℕ) (a i b : ℕ) → joined (rows f start piece (a + i)) b ≡ joined (λ k. rows f start piece a (i + k)) b
-rows-from f start piece a i b = joined-same _ _ b (λ k _. (let e : a + i + k ≡ a + (i + k) = omega arith in ap (λ n. table (λ j. greenAt evenWeights (continued f start piece) (pos n) (pos j) scale) (f .width)) e))
+rows-from f start piece a i b = joined-same _ _ b (λ k _. (let e : a + i + k ≡ a + (i + k) = omega arith in ap (greenRow f start piece) e))
 
 abbrev Inv-loop : tie.InvT-loop
 Inv-loop frame start piece a n x₀ d₀ g₀ t₀ f₀ out₀ w s i₀ x d g t f out i =
@@ -92,12 +90,19 @@ green-block-in-requires c κs =
     let l = k .before .loop in
     let q = k .before .before .before .before .before .before .before .before in
     let z = k .before .before .stride in
-    let h : z .result ≤ 4111 = omega (arith, z .ensures .2) in
+    let r = q .pre .1 .1 .0 in
     let a = q .args in (
       (lent-from (a .frame) (a .start) _ (a .a) (l .i) (e .block-size .result) (a .n) (inside e) (q .pre .0 .0), some e, omega (arith, e .block-size .ensures), q .pre .0 .1, q .pre .0 .2),
       (
         (z .ensures .0, z .ensures .1, z .ensures .2),
-        (omega (arith, l .inv .2), omega (arith, l .inv .3), omega (arith, l .inv .4), omega (arith, l .inv .5), omega (arith, l .inv .6), part-length (l .i * a .frame .width) (e .block-size .result * a .frame .width) (l .out) (omega (arith, writes e))),
+        (
+          omega (arith, l .inv .2, r .for-readings, z .ensures .2),
+          omega (arith, l .inv .3, r .for-differences, z .ensures .2),
+          omega (arith, l .inv .4, r .for-gradients, z .ensures .2),
+          omega (arith, l .inv .5, r .for-sums),
+          omega (arith, l .inv .6, r .for-fives),
+          part-length (l .i * a .frame .width) (e .block-size .result * a .frame .width) (l .out) (omega (arith, writes e)),
+        ),
       ),
     )
 
@@ -117,7 +122,7 @@ loop-again c =
     let a = q .args in
     let z = r .green-block-in .kept .1 .1 .1 .1 .1 .1 in (
       omega (arith, inside e),
-      joined-turns _ _ (row-length (a .frame) (a .start) (a .piece .now) (a .a)) (l .i) (e .block-size .result) (a .n) (a .out .now) (inside e) (q .pre .1 .1 .5) (l .inv .1)
+      joined-turns _ _ (row-length (a .frame) (a .start) (a .piece .now) (a .a)) (l .i) (e .block-size .result) (a .n) (a .out .now) (inside e) (q .pre .1 .1 .1) (l .inv .1)
           (r .green-block-in .ensures ∙ rows-from (a .frame) (a .start) (a .piece .now) (a .a) (l .i) (e .block-size .result)),
       z .0 ∙ l .inv .2,
       z .1 .0 ∙ l .inv .3,
@@ -148,7 +153,7 @@ returns : tie.Need-returns Inv-loop μ-loop
 returns c =
     let l = c .before .loop in
     let s = c .before .before .before .before .before .before .before .before in
-    l .inv .1 .0 ∙ joined-done _ _ (row-length (s .args .frame) (s .args .start) (s .args .piece .now) (s .args .a)) (l .i) (s .args .n) _ (l .inv .0) (c .loop-test .left) (s .pre .1 .1 .5)
+    l .inv .1 .0 ∙ joined-done _ _ (row-length (s .args .frame) (s .args .start) (s .args .piece .now) (s .args .a)) (l .i) (s .args .n) _ (l .inv .0) (c .loop-test .left) (s .pre .1 .1 .1)
 
 pub green-rows-spec : {M : Type 1} → statement M
 green-rows-spec =

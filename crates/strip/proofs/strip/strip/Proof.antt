@@ -2,8 +2,11 @@
 use native.Mathlib.Omega.{arith}
 use mathlib.Core.Path.{_≡_, sym, _∙_}
 use Rattle.bayer.specs.Refusal.{heldAfter}
-use Rattle.bayer.proofs.RefusalLaws.{refused-holds}
+use lib.ListN.{length}
 use borrow.Author.Needs.{needs}
+use Rattle.bayer.proofs.RefusalLaws.{refused-holds}
+use Rattle.strip.specs.Strip.{asked}
+use Rattle.strip.proofs.StripLaws.{Fits, fits, readable}
 use Rattle.strip.proofs.strip.strip.Statement.{statement}
 use Rattle.strip.proofs.strip.strip.Tie as tie
 
@@ -15,6 +18,18 @@ returns c =
     let refused : c .before .strip-check .result ≡ 0 → ⊥ = λ e. omega (arith, e, c .if1 .taken) in
     record { number = c .before .strip-check .ensures; red = sym (refused-holds _ _ _ refused); green = sym (refused-holds _ _ _ refused); blue = sym (refused-holds _ _ _ refused) }
 
+-- where the call is accepted, and where the planes are filled
+abbrev passed : tie.After-below → tie.Else1
+passed c = c .before .before .before .before .before
+
+abbrev filled : tie.After-below2 → tie.After-fill
+filled c = c .before .before .before .before .before .before .before .before
+
+fitting : (c : tie.Else1) →
+    let a = c .before .before .before .before .before .before .args in
+    Fits (asked (a .frame) (a .a) (a .n) (a .piece .now)) (length (a .red .now)) (length (a .green .now)) (length (a .blue .now))
+fitting c = fits _ _ _ _ (sym (c .before .strip-check .ensures) ∙ c .if1 .left)
+
 slice-aggregate-fill : tie.Need-slice-aggregate-fill
 slice-aggregate-fill c = search needs
 
@@ -22,7 +37,9 @@ slice-aggregate-fill-2 : tie.Need-slice-aggregate-fill-2
 slice-aggregate-fill-2 c = search needs
 
 fill-requires : tie.Need-fill-requires
-fill-requires c κs = search needs
+fill-requires c κs =
+    let w = fitting (passed c) in
+    (readable _ w, (w .reds, w .greens, w .blues, omega (arith, w .frame .narrow), omega (arith, w .frame .narrow)))
 
 same-length : tie.Need-same-length
 same-length c = search needs
@@ -36,8 +53,10 @@ same-length-3 c = search needs
 returns-2 : tie.Need-returns-2
 unfolding heldAfter
 returns-2 c =
-    let f = c .before .before .before .before .before .before .before .before .fill .ensures in
-    record { number = sym (c .before .before .before .before .before .before .before .before .before .before .before .before .before .before .if1 .left) ∙ c .before .before .before .before .before .before .before .before .before .before .before .before .before .before .before .strip-check .ensures; red = f .0; green = f .1 .0; blue = f .1 .1 }
+    let f = filled c in
+    let e = passed (f .before) in
+    let r = f .fill .ensures in
+    record { number = sym (e .if1 .left) ∙ e .before .strip-check .ensures; red = r .0; green = r .1 .0; blue = r .1 .1 }
 
 pub strip-spec : {M : Type 1} → statement M
 strip-spec =

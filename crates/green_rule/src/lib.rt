@@ -1,0 +1,1 @@
+// Definitions and laws: how the greens of a frame are worked out.

@@ -1,0 +1,3 @@
+pub mod GreenAmong
+pub mod ColourRow
+pub mod PlaneLaws

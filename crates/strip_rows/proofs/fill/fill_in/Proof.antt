@@ -1,0 +1,73 @@
+-- `strip_rows::fill::fill_in` meets its contract. Assumes nothing.
+use mathlib.Core.Path.{_≡_, _∙_}
+use borrow.Author.Needs.{needs}
+use Rattle.bayer.specs.declared.colour.Colour.the-variants.{Red, Green, Blue}
+use Rattle.strip_rows.specs.Rows.{Readable}
+use Rattle.strip_rows.proofs.PlaneLaws.{green-plane, readable-from, plane-from}
+use Rattle.strip_rows.proofs.fill.fill_in.Statement.{statement}
+use Rattle.strip_rows.proofs.fill.fill_in.Tie as tie
+
+-- where the piece's first row is known, and where the greens are there
+abbrev start : tie.After-piece-start → tie.Start
+start c = c .before .before .before .before .before .before .before
+
+abbrev placed : tie.After-greens → tie.After-piece-start
+placed c = c .before .before .before .before
+
+abbrev green : tie.After-colour-planes-arg5 → tie.After-greens
+green c = c .before .before .before .before .before .before .before .before .before .before .before
+
+abbrev ended : tie.After-slice-known10 → tie.After-colour-planes
+ended c = c .before .before .before .before
+
+-- as `greens` and `colour_planes` are told it
+readable : (c : tie.After-piece-start) → let a = start c .args in Readable (a .frame) (c .piece-start .result) (a .piece .now) (a .a) (a .n)
+readable c = let a = start c .args in readable-from (a .frame) (c .piece-start .ensures) (a .piece .now) (a .a) (a .n) (start c .pre .0)
+
+piece-start-requires : tie.Need-piece-start-requires
+piece-start-requires c κs = search needs
+
+greens-requires : tie.Need-greens-requires
+greens-requires c κs = let p = c .before .before .before in let s = start p in (readable p, (s .pre .1 .1, s .pre .1 .3, s .pre .1 .4))
+
+colour-planes-requires : tie.Need-colour-planes-requires
+colour-planes-requires c κs = let g = green c in let s = start (placed g) in (readable (placed g), g .greens .ensures, s .pre .1 .0, s .pre .1 .2)
+
+same-length : tie.Need-same-length
+same-length c = search needs
+
+same-length-2 : tie.Need-same-length-2
+same-length-2 c = search needs
+
+same-length-3 : tie.Need-same-length-3
+same-length-3 c = search needs
+
+same-length-4 : tie.Need-same-length-4
+same-length-4 c = search needs
+
+same-length-5 : tie.Need-same-length-5
+same-length-5 c = search needs
+
+returns : tie.Need-returns
+returns c =
+    let g = green (ended c .before) in
+    let p = placed g in
+    let a = start p .args in
+    let from = plane-from (a .frame) (p .piece-start .ensures) (a .piece .now) (a .a) (a .n) in (
+      ended c .colour-planes .ensures .0 ∙ from Red,
+      (g .greens .ensures .own ∙ green-plane (a .frame) _ (a .piece .now) (a .a) (a .n) ∙ from Green, ended c .colour-planes .ensures .1 ∙ from Blue),
+    )
+
+pub fill-in-spec : {M : Type 1} → statement M
+fill-in-spec =
+    tie.close
+    (tie.spec
+    piece-start-requires
+    greens-requires
+    colour-planes-requires
+    same-length
+    same-length-2
+    same-length-3
+    same-length-4
+    same-length-5
+    returns)

@@ -1,0 +1,44 @@
+-- The rows that a strip works out. Assumes nothing.
+use Prim.Native.Nat.{ℕ, _+_, _-_, _≤_, _<_}
+use mathlib.Core.Path.{_≡_}
+use mathlib.Core.Bool.{cond}
+use mathlib.Core.List.{List}
+use lib.Dec.{ltb}
+use lib.IntN.{pos}
+use lib.ListN.{length}
+use Rattle.lists.specs.Table.{table, joined}
+use Rattle.lists.specs.Part.{rowOf}
+use Rattle.lists.specs.Bound.{AllAtMost}
+use Rattle.bayer.specs.declared.colour.Colour.{Colour}
+use Rattle.bayer.specs.declared.frame.Frame.{Frame}
+use Rattle.bayer.specs.Condition.{FrameFits}
+use Rattle.bayer.specs.Mosaic.{continued}
+use Rattle.green_rule.specs.Greens.{greens, greenRow}
+use Rattle.demosaic.specs.Sample.{otherFrom}
+use Rattle.green_rows.specs.Extended.{Lent}
+
+-- row v of colour k, red or blue
+abbrev pub colourRow : Frame → (first : ℕ) (rows : List ℕ) → Colour → (v : ℕ) → List ℕ
+colourRow f first rows k v = table (λ j. otherFrom f (continued f first rows) (greens f first rows) k (pos v) (pos j)) (f .width)
+
+-- the readings from row `first` on have all that rows a to a + n − 1 of a frame, and the rows of green beside them, are worked out from
+pub record Readable (f : Frame) (first : ℕ) (rows : List ℕ) (a n : ℕ) : Type 0 where
+  pub frame : FrameFits f
+  pub some : 0 < n
+  pub inside : a + n ≤ f .height
+  pub range : AllAtMost 4095 rows
+  pub lent : (v : ℕ) → v < f .height → a ≤ v + 1 → v ≤ a + n → Lent f first (length rows) v
+
+-- row u − 1 of green, if the frame has such a row
+abbrev pub GreenBeside : Frame → (first : ℕ) (rows : List ℕ) (u : ℕ) → List ℕ → Type 0
+GreenBeside f first rows u row = (v : ℕ) → v + 1 ≡ u → v < f .height → row ≡ greenRow f first rows v
+
+-- the greens of rows a to a + n − 1, and those of the rows above and below them
+pub record GreensOf (f : Frame) (first : ℕ) (rows : List ℕ) (a n : ℕ) (green above below : List ℕ) : Type 0 where
+  pub own : green ≡ joined (λ i. greenRow f first rows (a + i)) n
+  pub above-is : GreenBeside f first rows a above
+  pub below-is : GreenBeside f first rows (a + n + 1) below
+
+-- row v of them
+abbrev pub amongGreens : (w a n : ℕ) (green above below : List ℕ) (v : ℕ) → List ℕ
+amongGreens w a n green above below v = cond (ltb v a) above (cond (ltb v (a + n)) (rowOf w (v - a) green) below)

@@ -1,0 +1,155 @@
+ghost use mathlib.Core.Path.{_≡_};
+ghost use mathlib.Core.Bool.{false};
+ghost use Prim.Native.Nat.{ℕ, _+_, _*_, _-_, _≤_, _<_};
+ghost use lib.IntN.{pos, _+ℤ_, _-ℤ_};
+ghost use lib.ListN.{length};
+ghost use Rattle.bayer.specs.declared.colour.Colour.the-variants.{Red, Green, Blue};
+ghost use Rattle.bayer.specs.Colour.{same};
+ghost use Rattle.bayer.specs.Mirror.{mirror};
+ghost use Rattle.lists.specs.Table.{joined};
+ghost use Rattle.lists.specs.Bound.{AllAtMost};
+ghost use Rattle.green_rule.specs.Greens.{greenRow};
+ghost use Rattle.demosaic.specs.Sample.{planeRows};
+ghost use Rattle.green_rows.specs.Extended.{Lent};
+ghost use Rattle.strip_rows.specs.Rows.{colourRow, Readable, GreensOf, amongGreens};
+use bayer::colour::Colour;
+use bayer::colour::partner;
+use bayer::frame::Frame;
+use bayer::mirror::mirror;
+use bayer::parity::starts_green;
+use fill_rows::rows::other_row;
+use fill_rows::rows::own_row;
+
+// Row v of the greens of rows a to a + n - 1 and of those above and below them.
+fn green_of<'a>(
+    green: &'a [u16],
+    above: &'a [u16],
+    below: &'a [u16],
+    w: usize,
+    a: usize,
+    n: usize,
+    v: usize,
+) -> &'a [u16]
+    requires { ⌜ (w ≤ 4096) × (a ≤ 4096) × (n ≤ 4096) × (length (now green) ≡ n * w) ⌝ }
+    ensures { λ r. ⌜ now r ≡ amongGreens w a n (now (green .entry)) (now (above .entry)) (now (below .entry)) v ⌝ }
+{
+    if v < a {
+        return above;
+    }
+    if v < a + n {
+        let at = (v - a) * w;
+        let end = at + w;
+        return &green[at..end];
+    }
+    below
+}
+
+// Whether two colours are the same.
+fn same_colour(a: Colour, b: Colour) -> bool
+    ensures { λ r. ⌜ r ≡ same a b ⌝ }
+{
+    match a {
+        Colour::Red => match b {
+            Colour::Red => true,
+            Colour::Green => false,
+            Colour::Blue => false,
+        },
+        Colour::Green => match b {
+            Colour::Red => false,
+            Colour::Green => true,
+            Colour::Blue => false,
+        },
+        Colour::Blue => match b {
+            Colour::Red => false,
+            Colour::Green => false,
+            Colour::Blue => true,
+        },
+    }
+}
+
+// Row v of colour k, red or blue: g is its green, ga and gb those of the rows that are read above and below it.
+fn colour_row(
+    frame: Frame,
+    start: usize,
+    piece: &[u16],
+    v: usize,
+    k: Colour,
+    ga: &[u16],
+    g: &[u16],
+    gb: &[u16],
+    out: &mut [u16],
+)
+    requires { ⌜ (Lent frame start (length (now piece)) v) × (frame .layout ≤ 3) × (AllAtMost 4095 (now piece)) × (same k Green ≡ false) ⌝ }
+    requires { ⌜ (now g ≡ greenRow frame start (now piece) v) × (now ga ≡ greenRow frame start (now piece) (mirror (frame .height) (pos v -ℤ pos 1))) × (now gb ≡ greenRow frame start (now piece) (mirror (frame .height) (pos v +ℤ pos 1))) × (length (now out) ≡ frame .width) ⌝ }
+    ensures { λ _. ⌜ now (out .exit) ≡ colourRow frame start (now (piece .entry)) k v ⌝ }
+{
+    let w = frame.width;
+    let h = frame.height;
+    let odd = starts_green(frame.layout, v);
+    let own = partner(frame.layout, v);
+    if same_colour(k, own) {
+        let at = (v - start) * w;
+        let end = at + w;
+        own_row(&piece[at..end], g, odd, out);
+        return;
+    }
+    let a = (mirror(h, v, 1) - start) * w;
+    let a_end = a + w;
+    let b = (mirror(h, v + 1, 0) - start) * w;
+    let b_end = b + w;
+    other_row(g, &piece[a..a_end], ga, &piece[b..b_end], gb, odd, out);
+}
+
+// Rows a to a + n - 1 of colour k, from the greens of these rows, above them and below them.
+fn colour_rows<'a>(
+    frame: Frame,
+    start: usize,
+    piece: &[u16],
+    a: usize,
+    n: usize,
+    k: Colour,
+    green: &'a [u16],
+    above: &'a [u16],
+    below: &'a [u16],
+    out: &mut [u16],
+)
+    requires { ⌜ (Readable frame start (now piece) a n) × (GreensOf frame start (now piece) a n (now green) (now above) (now below)) × (same k Green ≡ false) × (length (now out) ≡ n * frame .width) ⌝ }
+    ensures { λ _. ⌜ now (out .exit) ≡ joined (λ i. colourRow frame start (now (piece .entry)) k (a + i)) n ⌝ }
+{
+    let w = frame.width;
+    let h = frame.height;
+    let mut i = 0;
+    while i < n {
+        let v = a + i;
+        let ga = green_of(green, above, below, w, a, n, mirror(h, v, 1));
+        let g = green_of(green, above, below, w, a, n, v);
+        let gb = green_of(green, above, below, w, a, n, mirror(h, v + 1, 0));
+        let at = i * w;
+        let end = at + w;
+        colour_row(frame, start, piece, v, k, ga, g, gb, &mut out[at..end]);
+        i += 1;
+    }
+}
+
+// The red and the blue plane.
+pub fn colour_planes<'a>(
+    frame: Frame,
+    start: usize,
+    piece: &[u16],
+    a: usize,
+    n: usize,
+    green: &'a [u16],
+    above: &'a [u16],
+    below: &'a [u16],
+    red: &mut [u16],
+    blue: &mut [u16],
+)
+    requires { ⌜ (Readable frame start (now piece) a n) × (GreensOf frame start (now piece) a n (now green) (now above) (now below)) × (length (now red) ≡ n * frame .width) × (length (now blue) ≡ n * frame .width) ⌝ }
+    ensures { λ _. ⌜ now (red .exit) ≡ planeRows frame start (now (piece .entry)) a n Red ⌝ }
+    ensures { λ _. ⌜ now (blue .exit) ≡ planeRows frame start (now (piece .entry)) a n Blue ⌝ }
+{
+    let r = Colour::Red;
+    colour_rows(frame, start, piece, a, n, r, green, above, below, red);
+    let b = Colour::Blue;
+    colour_rows(frame, start, piece, a, n, b, green, above, below, blue);
+}

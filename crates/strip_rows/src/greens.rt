@@ -1,0 +1,98 @@
+ghost use mathlib.Core.Path.{_≡_};
+ghost use Prim.Native.Nat.{ℕ, _+_, _*_, _≤_, _<_};
+ghost use lib.ListN.{length};
+ghost use Rattle.lists.specs.Bound.{AllAtMost};
+ghost use Rattle.green_rows.specs.Extended.{Lent};
+ghost use Rattle.green_blocks.specs.Room.{Room};
+ghost use Rattle.strip_rows.specs.Rows.{Readable, GreenBeside, GreensOf};
+use bayer::frame::Frame;
+use green_blocks::rows::green_rows;
+
+// Green of row u - 1, if the frame has such a row. x, d, g, t and f are room to work in.
+fn green_beside(
+    frame: Frame,
+    start: usize,
+    piece: &[u16],
+    u: usize,
+    x: &mut [u16],
+    d: &mut [i32],
+    g: &mut [u32],
+    t: &mut [u32],
+    f: &mut [i32],
+    out: &mut [u16],
+)
+    requires { ⌜ ((v : ℕ) → v + 1 ≡ u → v < frame .height → Lent frame start (length (now piece)) v) × (frame .layout ≤ 3) × (AllAtMost 4095 (now piece)) ⌝ }
+    requires { ⌜ (Room (frame .width) (length (now x)) (length (now d)) (length (now g)) (length (now t)) (length (now f))) × (length (now out) ≡ frame .width) ⌝ }
+    ensures { λ _. ⌜ GreenBeside frame start (now (piece .entry)) u (now (out .exit)) ⌝ }
+{
+    if u == 0 {
+        return;
+    }
+    if frame.height < u {
+        return;
+    }
+    green_rows(frame, start, piece, u - 1, 1, x, d, g, t, f, out);
+}
+
+// The greens of rows a to a + n - 1, and of the rows above and below them that the frame has. At its edges the mirrored rows are among them already.
+fn greens_in(
+    frame: Frame,
+    start: usize,
+    piece: &[u16],
+    a: usize,
+    n: usize,
+    x: &mut [u16],
+    d: &mut [i32],
+    g: &mut [u32],
+    t: &mut [u32],
+    f: &mut [i32],
+    green: &mut [u16],
+    above: &mut [u16],
+    below: &mut [u16],
+)
+    requires { ⌜ Readable frame start (now piece) a n ⌝ }
+    requires { ⌜ (length (now green) ≡ n * frame .width) × (length (now above) ≡ frame .width) × (length (now below) ≡ frame .width) ⌝ }
+    requires { ⌜ Room (frame .width) (length (now x)) (length (now d)) (length (now g)) (length (now t)) (length (now f)) ⌝ }
+    ensures { λ _. ⌜ GreensOf frame start (now (piece .entry)) a n (now (green .exit)) (now (above .exit)) (now (below .exit)) ⌝ }
+{
+    green_rows(frame, start, piece, a, n, x, d, g, t, f, green);
+    green_beside(frame, start, piece, a, x, d, g, t, f, above);
+    green_beside(frame, start, piece, a + n + 1, x, d, g, t, f, below);
+}
+
+// The same, with room of its own, for up to 4096 columns.
+pub fn greens(
+    frame: Frame,
+    start: usize,
+    piece: &[u16],
+    a: usize,
+    n: usize,
+    green: &mut [u16],
+    above: &mut [u16],
+    below: &mut [u16],
+)
+    requires { ⌜ Readable frame start (now piece) a n ⌝ }
+    requires { ⌜ (length (now green) ≡ n * frame .width) × (length (now above) ≡ frame .width) × (length (now below) ≡ frame .width) ⌝ }
+    ensures { λ _. ⌜ GreensOf frame start (now (piece .entry)) a n (now (green .exit)) (now (above .exit)) (now (below .exit)) ⌝ }
+{
+    let mut x = [0u16; 65776];
+    let mut d = [0i32; 73998];
+    let mut g = [0u32; 57554];
+    let mut t = [0u32; 16384];
+    let mut f = [0i32; 16384];
+    greens_in(
+        frame,
+        start,
+        piece,
+        a,
+        n,
+        &mut x,
+        &mut d,
+        &mut g,
+        &mut t,
+        &mut f,
+        green,
+        above,
+        below,
+    );
+}
