@@ -49,9 +49,6 @@ decimal-within (suc k) n h =
       | no t ↦ omega (arith, length-one n (omega arith))
     ]
 
-pub decimal-fits : (n : ℕ) → n < 4294967296 → length (decimal n) ≤ 10
-decimal-fits n h = decimal-within 9 n (omega arith)
-
 pub spaced-fits : (n : ℕ) → n < 4294967296 → length (spaced n) ≤ 11
 unfolding spaced
-spaced-fits n h = omega (arith, decimal-fits n h)
+spaced-fits n h = omega (arith, decimal-within 9 n (omega arith))

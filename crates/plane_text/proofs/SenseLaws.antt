@@ -11,7 +11,7 @@ use lib.ListN.{length, getD}
 use Rattle.plane_text.specs.Statistics.{fold, folded, smallest, largest}
 use Rattle.plane_text.specs.Text.{digits, decimal}
 
--- no sample is below the smallest, or above the largest: what holds of all that was joined holds of each entry
+-- no sample is below the smallest, or above the largest: a bound of what is joined is one of each entry
 module _ (f : ℕ → ℕ → ℕ) (P : ℕ → Type 0) (both : (a b : ℕ) → P (f a b) → P a × P b) where
   each : (v : ℕ) (l : List ℕ) → P (fold f v l) → (i : ℕ) → i < length (v ∷ l) → P (getD (v ∷ l) i 0)
   unfolding fold

@@ -24,119 +24,67 @@ abbrev put-decimal-below : ℕ → In 1 put-decimal-kinds.ps
 put-decimal-below t =
     and 1 put-decimal-kinds.ps (falls 1 put-decimal-kinds.ps _<_ μ-put-decimal t) put-decimal.Pre
 
-put-decimal-cast-put-byte : (t : ℕ) → put-decimal-lts.Need-cast-put-byte (
-  put-byte-reads.Asked,
-  put-byte-reads.Learnt,
-  put-decimal-below t,
-  put-decimal.Post,
-) (put-decimal-at t) put-decimal.Post
-put-decimal-cast-put-byte t c = omega arith
+abbrev claims : ℕ → put-decimal-lts.Claims
+claims t = (put-byte-reads.Asked, put-byte-reads.Learnt, put-decimal-below t, put-decimal.Post)
 
-put-decimal-add-put-byte : (t : ℕ) → put-decimal-lts.Need-add-put-byte (
-  put-byte-reads.Asked,
-  put-byte-reads.Learnt,
-  put-decimal-below t,
-  put-decimal.Post,
-) (put-decimal-at t) put-decimal.Post
-put-decimal-add-put-byte t c = omega arith
+module _ (t : ℕ) where
+  cast-put-byte : put-decimal-lts.Need-cast-put-byte (claims t) (put-decimal-at t) put-decimal.Post
+  cast-put-byte c = omega arith
 
-put-decimal-put-byte-requires : (t : ℕ) → put-decimal-lts.Need-put-byte-requires (
-  put-byte-reads.Asked,
-  put-byte-reads.Learnt,
-  put-decimal-below t,
-  put-decimal.Post,
-) (put-decimal-at t) put-decimal.Post
-put-decimal-put-byte-requires t c κs = let s = c .before .before .before in omega (arith, length-one (s .args .n) (c .before .if1 .taken), s .pre .1)
+  add-put-byte : put-decimal-lts.Need-add-put-byte (claims t) (put-decimal-at t) put-decimal.Post
+  add-put-byte c = omega arith
 
-put-decimal-same-length : (t : ℕ) → put-decimal-lts.Need-same-length (
-  put-byte-reads.Asked,
-  put-byte-reads.Learnt,
-  put-decimal-below t,
-  put-decimal.Post,
-) (put-decimal-at t) put-decimal.Post
-put-decimal-same-length t c = omega arith
+  put-byte-requires : put-decimal-lts.Need-put-byte-requires (claims t) (put-decimal-at t) put-decimal.Post
+  put-byte-requires c κs = let s = c .before .before .before in omega (arith, length-one (s .args .n) (c .before .if1 .taken), s .pre .1)
 
-put-decimal-returns : (t : ℕ) → put-decimal-lts.Need-returns (
-  put-byte-reads.Asked,
-  put-byte-reads.Learnt,
-  put-decimal-below t,
-  put-decimal.Post,
-) (put-decimal-at t) put-decimal.Post
-put-decimal-returns t c = rw (decimal-one _ (c .before .before .before .before .if1 .taken)) (c .before .before .put-byte .ensures)
+  same-length : put-decimal-lts.Need-same-length (claims t) (put-decimal-at t) put-decimal.Post
+  same-length c = omega arith
 
-put-decimal-put-decimal-requires : (t : ℕ) → put-decimal-lts.Need-put-decimal-requires (
-  put-byte-reads.Asked,
-  put-byte-reads.Learnt,
-  put-decimal-below t,
-  put-decimal.Post,
-) (put-decimal-at t) put-decimal.Post
-put-decimal-put-decimal-requires t c κs =
-    let s = c .before .before .before in
-    (omega (arith, s .pre .0, div-lt-self {n = s .args .n} {k = 10} (omega arith) (omega arith)), omega (arith, length-more (s .args .n) (c .before .if1 .left), s .pre .1))
+  returns : put-decimal-lts.Need-returns (claims t) (put-decimal-at t) put-decimal.Post
+  returns c = rw (decimal-one _ (c .before .before .before .before .if1 .taken)) (c .before .before .put-byte .ensures)
 
-put-decimal-cast-put-byte-2 : (t : ℕ) → put-decimal-lts.Need-cast-put-byte-2 (
-  put-byte-reads.Asked,
-  put-byte-reads.Learnt,
-  put-decimal-below t,
-  put-decimal.Post,
-) (put-decimal-at t) put-decimal.Post
-put-decimal-cast-put-byte-2 t c = omega arith
+  put-decimal-requires : put-decimal-lts.Need-put-decimal-requires (claims t) (put-decimal-at t) put-decimal.Post
+  put-decimal-requires c κs =
+      let s = c .before .before .before in (
+        omega (arith, s .pre .0, div-lt-self {n = s .args .n} {k = 10} (omega arith) (omega arith)),
+        omega (arith, length-more (s .args .n) (c .before .if1 .left), s .pre .1),
+      )
 
-put-decimal-add-put-byte-2 : (t : ℕ) → put-decimal-lts.Need-add-put-byte-2 (
-  put-byte-reads.Asked,
-  put-byte-reads.Learnt,
-  put-decimal-below t,
-  put-decimal.Post,
-) (put-decimal-at t) put-decimal.Post
-put-decimal-add-put-byte-2 t c = omega arith
+  cast-put-byte-2 : put-decimal-lts.Need-cast-put-byte-2 (claims t) (put-decimal-at t) put-decimal.Post
+  cast-put-byte-2 c = omega arith
 
-put-decimal-put-byte-requires-2 : (t : ℕ) → put-decimal-lts.Need-put-byte-requires-2 (
-  put-byte-reads.Asked,
-  put-byte-reads.Learnt,
-  put-decimal-below t,
-  put-decimal.Post,
-) (put-decimal-at t) put-decimal.Post
-put-decimal-put-byte-requires-2 t c κs =
-    let s = c .before .before .before .before .before .before .before in
-    omega (arith, length-more (s .args .n) (c .before .before .before .before .before .if1 .left), s .pre .1, c .before .before .before .put-decimal .ensures .until)
+  add-put-byte-2 : put-decimal-lts.Need-add-put-byte-2 (claims t) (put-decimal-at t) put-decimal.Post
+  add-put-byte-2 c = omega arith
 
-put-decimal-same-length-2 : (t : ℕ) → put-decimal-lts.Need-same-length-2 (
-  put-byte-reads.Asked,
-  put-byte-reads.Learnt,
-  put-decimal-below t,
-  put-decimal.Post,
-) (put-decimal-at t) put-decimal.Post
-put-decimal-same-length-2 t c = omega arith
+  put-byte-requires-2 : put-decimal-lts.Need-put-byte-requires-2 (claims t) (put-decimal-at t) put-decimal.Post
+  put-byte-requires-2 c κs =
+      let p = c .before .before .before in
+      let s = p .before .before .before .before in
+      omega (arith, length-more (s .args .n) (p .before .before .if1 .left), s .pre .1, p .put-decimal .ensures .until)
 
-put-decimal-returns-2 : (t : ℕ) → put-decimal-lts.Need-returns-2 (
-  put-byte-reads.Asked,
-  put-byte-reads.Learnt,
-  put-decimal-below t,
-  put-decimal.Post,
-) (put-decimal-at t) put-decimal.Post
-put-decimal-returns-2 t c =
-    let p = c .before .before .before .before .before .before in
-    let s = p .before .before .before .before in
-    rw (decimal-more (s .args .n) (p .before .before .if1 .left))
-    (then (p .put-decimal .ensures) (c .before .before .put-byte2 .ensures) (omega (arith, length-more (s .args .n) (p .before .before .if1 .left), s .pre .1)))
+  same-length-2 : put-decimal-lts.Need-same-length-2 (claims t) (put-decimal-at t) put-decimal.Post
+  same-length-2 c = omega arith
+
+  returns-2 : put-decimal-lts.Need-returns-2 (claims t) (put-decimal-at t) put-decimal.Post
+  returns-2 c =
+      let p = c .before .before .before .before .before .before in
+      let s = p .before .before .before .before in
+      let l = p .before .before .if1 .left in
+      rw (decimal-more (s .args .n) l) (then (p .put-decimal .ensures) (c .before .before .put-byte2 .ensures) (omega (arith, length-more (s .args .n) l, s .pre .1)))
 
 pub +put-decimal-spec : {M : Type 1} → statement M
-+put-decimal-spec = close μ-put-decimal λ t. put-decimal-lts.spec (
-  put-byte-reads.Asked,
-  put-byte-reads.Learnt,
-  put-decimal-below t,
-  put-decimal.Post,
-)
++put-decimal-spec = close μ-put-decimal λ t. put-decimal-lts.spec
+    (claims t)
     (put-decimal-at t)
     put-decimal.Post
-    (put-decimal-cast-put-byte t)
-    (put-decimal-add-put-byte t)
-    (put-decimal-put-byte-requires t)
-    (put-decimal-same-length t)
-    (put-decimal-returns t)
-    (put-decimal-put-decimal-requires t)
-    (put-decimal-cast-put-byte-2 t)
-    (put-decimal-add-put-byte-2 t)
-    (put-decimal-put-byte-requires-2 t)
-    (put-decimal-same-length-2 t)
-    (put-decimal-returns-2 t)
+    (cast-put-byte t)
+    (add-put-byte t)
+    (put-byte-requires t)
+    (same-length t)
+    (returns t)
+    (put-decimal-requires t)
+    (cast-put-byte-2 t)
+    (add-put-byte-2 t)
+    (put-byte-requires-2 t)
+    (same-length-2 t)
+    (returns-2 t)
