@@ -1,6 +1,6 @@
 -- What a strip call on the whole frame of a file answers is what the program prints, and what is read of a file decides it. Assumes nothing.
-use Prim.Native.Nat.{ℕ, zero, suc, _*_, _<_}
-use mathlib.Core.Path.{_≡_, refl, sym, ap, _∙_}
+use Prim.Native.Nat.{ℕ, _*_, _<_}
+use mathlib.Core.Path.{_≡_, sym, ap, _∙_}
 use mathlib.Core.Bool.{true, false}
 use mathlib.Core.List.{List}
 use native.Mathlib.Decide.{decLe}
@@ -13,8 +13,9 @@ use Rattle.bayer.specs.declared.colour.Colour.the-variants.{Red, Green, Blue}
 use Rattle.bayer.specs.declared.frame.Frame.{Frame}
 use Rattle.strip.specs.Strip.{stripPlane, Promise}
 use Rattle.bayer.specs.Refusal.{heldAfter}
-use Rattle.frame_file.specs.Text.{refusalLine}
-use Rattle.frame_file.specs.FrameFile.{frameOf, readings, malformed, fileNumber, framePlane, lines, answered, output}
+use Rattle.plane_text.specs.Text.{lines, refusalLine, answered}
+use Rattle.plane_text.proofs.LineLaws.{same-lines, refused-line}
+use Rattle.frame_file.specs.FrameFile.{frameOf, readings, malformed, fileNumber, framePlane, output}
 use Rattle.frame_file.proofs.FileLaws.{torn, number-is, plane-is}
 
 pub torn-line : (bytes : List ℕ) → malformed bytes ≡ true → output bytes ≡ refusalLine 8
@@ -33,15 +34,6 @@ read-decides size file room =
     long : (bytes : List ℕ) → 8202 < length bytes → malformed bytes ≡ true
     long bytes h = rw (lt-ltb 8202 (length bytes) h)
 
-refuses : (n : ℕ) (accepted : List ℕ) → (n ≡ 0 → ⊥) → answered n accepted ≡ refusalLine n
-unfolding answered
-refuses zero accepted h = absurd (h refl)
-refuses (suc n) accepted h = refl
-
-same-lines : (p q : Colour → List ℕ) → p Red ≡ q Red → p Green ≡ q Green → p Blue ≡ q Blue → lines p ≡ lines q
-unfolding lines
-same-lines p q r g b = rw (r, g, b)
-
 module _ (bytes : List ℕ) (well : malformed bytes ≡ false) (f : Frame) (e : f ≡ frameOf bytes) (piece : List ℕ) (m : piece ≡ readings bytes)
     (lent after : Colour → List ℕ) (number : ℕ) (p : Promise f 0 (f .height) piece lent number after)
     (r : length (lent Red) ≡ f .width * f .height) (g : length (lent Green) ≡ f .width * f .height) (b : length (lent Blue) ≡ f .width * f .height) where
@@ -53,7 +45,7 @@ module _ (bytes : List ℕ) (well : malformed bytes ≡ false) (f : Frame) (e : 
 
   pub refused : (number ≡ 0 → ⊥) → output bytes ≡ refusalLine number
   unfolding output
-  refused h = rw (← numbered) (refuses number _ h)
+  refused h = rw (← numbered) (refused-line number _ h)
 
   filled : (k : Colour) {plane : List ℕ} → number ≡ 0 → plane ≡ heldAfter number (stripPlane f 0 (f .height) piece k) (lent k) → plane ≡ framePlane (frameOf bytes) (readings bytes) k
   unfolding heldAfter

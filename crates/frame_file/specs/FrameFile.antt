@@ -5,7 +5,6 @@ use mathlib.Core.List.{List, [], _∷_, _++_}
 use lib.Dec.{ltb, eqb}
 use lib.ListN.{length, getD, drop}
 use Rattle.bayer.specs.declared.colour.Colour.{Colour}
-use Rattle.bayer.specs.declared.colour.Colour.the-variants.{Red, Green, Blue}
 use Rattle.bayer.specs.declared.frame.Frame.{Frame}
 use Rattle.bayer.specs.Frame.{frame}
 use Rattle.bayer.specs.Condition.{frameCases}
@@ -14,7 +13,7 @@ use Rattle.gbtf.specs.Weights.{scale, evenWeights}
 use Rattle.demosaic.specs.Sample.{sample}
 use Rattle.lists.specs.Table.{table, joined}
 use Rattle.lists.specs.Bound.{anyAbove}
-use Rattle.frame_file.specs.Text.{letter, planeLine, refusalLine}
+use Rattle.plane_text.specs.Text.{lines, answered}
 
 -- a number of n bytes from byte `at` on, big-endian
 unfoldable pub bigEndian : (bytes : List ℕ) (at n : ℕ) → ℕ
@@ -50,14 +49,6 @@ fileNumber bytes = firstOf ((malformedFile when malformed bytes) ∷ (frameCases
 -- plane k of a whole frame, row by row
 unfoldable pub framePlane : Frame → (readings : List ℕ) (k : Colour) → List ℕ
 framePlane f readings k = joined (λ i. table (λ j. sample scale evenWeights f 0 readings k i j) (f .width)) (f .height)
-
--- three lines, R, G, B; a refusal prints one line
-unfoldable pub lines : (plane : Colour → List ℕ) → List ℕ
-lines plane = planeLine (letter Red) (plane Red) ++ (planeLine (letter Green) (plane Green) ++ planeLine (letter Blue) (plane Blue))
-
-unfoldable pub answered : (number : ℕ) (accepted : List ℕ) → List ℕ
-answered zero accepted = accepted
-answered (suc n) accepted = refusalLine (suc n)
 
 -- WHAT THE PROGRAM PRINTS, for any bytes
 unfoldable pub output : (bytes : List ℕ) → List ℕ

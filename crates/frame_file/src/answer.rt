@@ -3,26 +3,16 @@ ghost use mathlib.Core.Bool.{false};
 ghost use mathlib.Core.List.{List};
 ghost use Prim.Native.Nat.{ℕ, _*_, _≤_, min};
 ghost use lib.ListN.{length, take};
-ghost use Rattle.bayer.specs.Planes.{threePlanes};
-ghost use Rattle.frame_file.specs.Text.{Printed, Answered};
-ghost use Rattle.frame_file.specs.FrameFile.{frameOf, malformed, lines, output};
+ghost use Rattle.plane_text.specs.Written.{Written, Answered};
+ghost use Rattle.frame_file.specs.FrameFile.{frameOf, malformed, output};
 use crate::file::frame_of;
 use crate::file::is_malformed;
 use crate::file::read_readings;
-use crate::text::put_plane_line;
-use crate::text::put_refusal_line;
 use bayer::frame::Frame;
 use bayer::refusal::MALFORMED_FILE;
+use plane_text::lines::put_lines;
+use plane_text::text::put_refusal_line;
 use strip::strip::strip;
-
-fn put_lines(red: &[u16], green: &[u16], blue: &[u16], out: &mut [u8]) -> usize
-    requires { ⌜ (length (now red) ≤ 4096) × (length (now green) ≤ 4096) × (length (now blue) ≤ 4096) × (105 ≤ length (now out)) ⌝ }
-    ensures { λ r. ⌜ Printed (lines (threePlanes (now (red .entry)) (now (green .entry)) (now (blue .entry)))) 0 (now (out .entry)) (now (out .exit)) r × (r ≤ 105) ⌝ }
-{
-    let a = put_plane_line(b'R', red, out, 0);
-    let b = put_plane_line(b'G', green, out, a);
-    put_plane_line(b'B', blue, out, b)
-}
 
 // For a file that is not malformed. The mosaic and the planes are room for the frame's samples.
 fn frame_answer(
@@ -36,7 +26,7 @@ fn frame_answer(
 ) -> usize
     requires { ⌜ (malformed (now bytes) ≡ false) × (frame ≡ frameOf (now bytes)) × (105 ≤ length (now out)) ⌝ }
     requires { ⌜ (length (now mosaic) ≡ frame .width * frame .height) × (length (now red) ≡ frame .width * frame .height) × (length (now green) ≡ frame .width * frame .height) × (length (now blue) ≡ frame .width * frame .height) ⌝ }
-    ensures { λ r. ⌜ Printed (output (now (bytes .entry))) 0 (now (out .entry)) (now (out .exit)) r × (r ≤ 105) ⌝ }
+    ensures { λ r. ⌜ Written (output (now (bytes .entry))) 0 (now (out .entry)) (now (out .exit)) r × (r ≤ 105) ⌝ }
 {
     read_readings(bytes, mosaic);
     let number = strip(frame, 0, frame.height, mosaic, red, green, blue);
@@ -57,7 +47,7 @@ fn file_answer(
 ) -> usize
     requires { ⌜ (malformed (now bytes) ≡ false) × (105 ≤ length (now out)) ⌝ }
     requires { ⌜ (length (now mosaic) ≡ 4096) × (length (now red) ≡ 4096) × (length (now green) ≡ 4096) × (length (now blue) ≡ 4096) ⌝ }
-    ensures { λ r. ⌜ Printed (output (now (bytes .entry))) 0 (now (out .entry)) (now (out .exit)) r × (r ≤ 105) ⌝ }
+    ensures { λ r. ⌜ Written (output (now (bytes .entry))) 0 (now (out .entry)) (now (out .exit)) r × (r ≤ 105) ⌝ }
 {
     let frame = frame_of(bytes);
     let size = frame.width * frame.height;

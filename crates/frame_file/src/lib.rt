@@ -1,5 +1,3 @@
-// The small program but for reading and writing: the tests of a frame file, its readings, and the lines that are printed.
+// The small program but for reading and writing: the tests of a frame file, its readings, and what is printed of it.
 pub mod answer;
 pub mod file;
-pub mod statistics;
-pub mod text;

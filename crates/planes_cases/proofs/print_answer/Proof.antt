@@ -14,10 +14,10 @@ answer-requires : tie.Need-answer-requires
 answer-requires c κs = search needs
 
 array-share-prefix-out : tie.Need-array-share-prefix-out
-array-share-prefix-out c = omega (arith, c .before .answer .ensures .printed (lit≤ tt) .1)
+array-share-prefix-out c = omega (arith, c .before .answer .ensures .written (lit≤ tt) .1)
 
 slice-aggregate-write-all : tie.Need-slice-aggregate-write-all
-slice-aggregate-write-all c = let a = c .before .before .answer in sym (length-take-le _ (a .last .1 .0) (omega (arith, a .ensures .printed (lit≤ tt) .1)))
+slice-aggregate-write-all c = let a = c .before .before .answer in sym (length-take-le _ (a .last .1 .0) (omega (arith, a .ensures .written (lit≤ tt) .1)))
 
 write-all-requires : tie.Need-write-all-requires
 write-all-requires c κs = search needs

@@ -7,7 +7,7 @@ use Rattle.frame_file.proofs.answer.answer.Statement.{statement}
 use Rattle.frame_file.proofs.answer.answer.Tie as tie
 
 returns : tie.Need-returns
-returns c = record { printed = λ h. absurd (omega (arith, h, c .if1 .taken)); short = λ h. (refl, refl) }
+returns c = record { written = λ h. absurd (omega (arith, h, c .if1 .taken)); short = λ h. (refl, refl) }
 
 is-malformed-requires : tie.Need-is-malformed-requires
 is-malformed-requires c κs = search needs
@@ -22,8 +22,9 @@ returns-2 : tie.Need-returns-2
 returns-2 c =
     let p = c .before .before in
     let m = p .before .before .before in
+    let e = torn-line (m .before .before .before .before .args .bytes .now) (sym (m .is-malformed .ensures) ∙ p .before .before .if2 .taken) in
     record {
-      printed = λ h. (rw (torn-line (m .before .before .before .before .args .bytes .now) (sym (m .is-malformed .ensures) ∙ p .before .before .if2 .taken)) (p .put-refusal-line .ensures .0), omega (arith, p .put-refusal-line .ensures .1));
+      written = λ h. (rw e (p .put-refusal-line .ensures .0), omega (arith, p .put-refusal-line .ensures .1));
       short = λ h. absurd (omega (arith, h, m .before .if1 .left));
     }
 
@@ -50,7 +51,7 @@ same-length-2 c = search needs
 returns-3 : tie.Need-returns-3
 returns-3 c =
     let a = c .before .before .before .before .before .before in
-    record { printed = λ h. a .file-answer .ensures; short = λ h. absurd (omega (arith, h)) }
+    record { written = λ h. a .file-answer .ensures; short = λ h. absurd (omega (arith, h)) }
 
 pub answer-spec : {M : Type 1} → statement M
 answer-spec =

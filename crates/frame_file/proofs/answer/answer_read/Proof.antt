@@ -10,7 +10,7 @@ use lib.ListN.{length, take}
 use lib.Seq.{length-take-le, take-all}
 use mir.Syntax.{w8}
 use Rattle.frame_file.specs.FrameFile.{output}
-use Rattle.frame_file.specs.Text.{Answered}
+use Rattle.plane_text.specs.Written.{Answered}
 use Rattle.frame_file.proofs.AnswerLaws.{read-decides}
 use Rattle.frame_file.proofs.answer.answer_read.Statement.{statement}
 use Rattle.frame_file.proofs.answer.answer_read.Tie as tie
@@ -44,7 +44,7 @@ returns c =
     let least : l .result ≡ min (s .args .n) (length (s .args .t1)) = omega (arith, l .ensures, good-length (eInt w8) _ (s .args .t1) _ (s .good .0)) in
     let read : take (l .result) (s .args .t1) ≡ take (s .args .n) (s .args .t1) = rw least (take-least (s .args .n) (s .args .t1)) in (
       λ file e. subst (λ text. Answered text (s .args .out .now) (a .last .1 .0) (a .result)) (ap output (read ∙ e) ∙ read-decides (length (s .args .t1)) file (room s)) (a .ensures),
-      elim (decLe 105 (length (s .args .out .now))) [ yes h ↦ a .ensures .printed h .1 | no h ↦ omega (arith, a .ensures .short (omega arith) .0) ],
+      elim (decLe 105 (length (s .args .out .now))) [ yes h ↦ a .ensures .written h .1 | no h ↦ omega (arith, a .ensures .short (omega arith) .0) ],
     )
 
 pub answer-read-spec : {M : Type 1} → statement M

@@ -8,8 +8,11 @@ use Rattle.frame_file.proofs.FileLaws.{sized}
 use Rattle.frame_file.proofs.answer.file_answer.Statement.{statement}
 use Rattle.frame_file.proofs.answer.file_answer.Tie as tie
 
+abbrev start : tie.After-frame-of → tie.Start
+start c = c .before .before .before .before .before .before .before
+
 fits : (c : tie.After-frame-of) → c .frame-of .result .width * c .frame-of .result .height ≤ 4096
-fits c = let s = c .before .before .before .before .before .before .before in omega (arith, ap (λ (f : Frame). f .width * f .height) (c .frame-of .ensures), sized (s .args .bytes .now) (s .pre .0 .0) .1)
+fits c = let s = start c in omega (arith, ap (λ (f : Frame). f .width * f .height) (c .frame-of .ensures), sized (s .args .bytes .now) (s .pre .0 .0) .1)
 
 frame-of-requires : tie.Need-frame-of-requires
 frame-of-requires c κs = let s = c .before .before .before .before .before .before in omega (arith, sized (s .args .bytes .now) (s .pre .0 .0) .0)
@@ -24,7 +27,7 @@ part-frame-answer-start : tie.Need-part-frame-answer-start
 part-frame-answer-start c = search needs
 
 part-frame-answer-end : tie.Need-part-frame-answer-end
-part-frame-answer-end c = omega (arith, fits (c .before), c .before .before .before .before .before .before .before .before .pre)
+part-frame-answer-end c = let f = c .before in omega (arith, fits f, start f .pre)
 
 sub-frame-answer-2 : tie.Need-sub-frame-answer-2
 sub-frame-answer-2 c = search needs
@@ -33,7 +36,7 @@ part-frame-answer-start-2 : tie.Need-part-frame-answer-start-2
 part-frame-answer-start-2 c = search needs
 
 part-frame-answer-end-2 : tie.Need-part-frame-answer-end-2
-part-frame-answer-end-2 c = omega (arith, fits (c .before .before), c .before .before .before .before .before .before .before .before .before .pre)
+part-frame-answer-end-2 c = let f = c .before .before in omega (arith, fits f, start f .pre)
 
 sub-frame-answer-3 : tie.Need-sub-frame-answer-3
 sub-frame-answer-3 c = search needs
@@ -42,7 +45,7 @@ part-frame-answer-start-3 : tie.Need-part-frame-answer-start-3
 part-frame-answer-start-3 c = search needs
 
 part-frame-answer-end-3 : tie.Need-part-frame-answer-end-3
-part-frame-answer-end-3 c = omega (arith, fits (c .before .before .before), c .before .before .before .before .before .before .before .before .before .before .pre)
+part-frame-answer-end-3 c = let f = c .before .before .before in omega (arith, fits f, start f .pre)
 
 sub-frame-answer-4 : tie.Need-sub-frame-answer-4
 sub-frame-answer-4 c = search needs
@@ -51,12 +54,13 @@ part-frame-answer-start-4 : tie.Need-part-frame-answer-start-4
 part-frame-answer-start-4 c = search needs
 
 part-frame-answer-end-4 : tie.Need-part-frame-answer-end-4
-part-frame-answer-end-4 c = omega (arith, fits (c .before .before .before .before), c .before .before .before .before .before .before .before .before .before .before .before .pre)
+part-frame-answer-end-4 c = let f = c .before .before .before .before in omega (arith, fits f, start f .pre)
 
 frame-answer-requires : tie.Need-frame-answer-requires
 frame-answer-requires c κs =
-    let s = c .before .before .before .before .before .before .before .before .before .before .before .before .before in
-    ((s .pre .0 .0, c .before .before .before .before .before .before .frame-of .ensures, omega (arith, s .pre)), (search needs, search needs, search needs, search needs))
+    let f = c .before .before .before .before .before .before in
+    let s = start f in
+    ((s .pre .0 .0, f .frame-of .ensures, omega (arith, s .pre)), (search needs, search needs, search needs, search needs))
 
 same-length : tie.Need-same-length
 same-length c = search needs

@@ -25,7 +25,9 @@ new-requires : tie.Need-new-requires
 new-requires c κs = search needs
 
 returns : tie.Need-returns
-returns c = c .new .ensures ∙ ap₂ (λ w h. frame w h (getD (c .before .before .before .before .before .args .bytes .now) 9 0)) (c .before .before .before .two-bytes .ensures) (c .before .before .two-bytes2 .ensures)
+returns c =
+    let p = c .before .before .before in
+    c .new .ensures ∙ ap₂ (λ w h. frame w h (getD (p .before .before .args .bytes .now) 9 0)) (p .two-bytes .ensures) (c .before .before .two-bytes2 .ensures)
 
 pub frame-of-spec : {M : Type 1} → statement M
 frame-of-spec =

@@ -1,0 +1,3 @@
+pub mod Statistics
+pub mod Text
+pub mod Written
