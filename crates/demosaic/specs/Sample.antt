@@ -66,3 +66,7 @@ sample f first rows k i j = sampleFrom f (continued f first rows) (greens f firs
 -- rows a to a + n − 1 of it
 unfoldable pub planeRows : Frame → (first : ℕ) (rows : List ℕ) (a n : ℕ) (k : Colour) → List ℕ
 planeRows f first rows a n k = joined (λ i. table (λ j. sample f first rows k (a + i) j) (f .width)) n
+
+-- the whole plane
+abbrev pub framePlane : Frame → (readings : List ℕ) (k : Colour) → List ℕ
+framePlane f readings k = planeRows f 0 readings 0 (f .height) k

@@ -11,12 +11,14 @@ use lib.Seq.{take-all}
 use Rattle.bayer.specs.declared.colour.Colour.{Colour}
 use Rattle.bayer.specs.declared.colour.Colour.the-variants.{Red, Green, Blue}
 use Rattle.bayer.specs.declared.frame.Frame.{Frame}
-use Rattle.strip.specs.Strip.{stripPlane, Promise}
-use Rattle.bayer.specs.Refusal.{heldAfter}
+use Rattle.bayer.specs.Planes.{Planes}
+use Rattle.demosaic.specs.Sample.{framePlane}
+use Rattle.strip.specs.Strip.{asked, Promise}
+use Rattle.strip.proofs.WholeFrame.{whole-plane}
 use Rattle.plane_text.specs.Text.{lines, refusalLine, answered}
 use Rattle.plane_text.proofs.LineLaws.{same-lines, refused-line}
-use Rattle.frame_file.specs.FrameFile.{frameOf, readings, malformed, fileNumber, framePlane, output}
-use Rattle.frame_file.proofs.FileLaws.{torn, number-is, plane-is}
+use Rattle.frame_file.specs.FrameFile.{frameOf, readings, malformed, fileNumber, output}
+use Rattle.frame_file.proofs.FileLaws.{torn, number-is}
 
 pub torn-line : (bytes : List ℕ) → malformed bytes ≡ true → output bytes ≡ refusalLine 8
 unfolding output answered
@@ -35,7 +37,7 @@ read-decides size file room =
     long bytes h = rw (lt-ltb 8202 (length bytes) h)
 
 module _ (bytes : List ℕ) (well : malformed bytes ≡ false) (f : Frame) (e : f ≡ frameOf bytes) (piece : List ℕ) (m : piece ≡ readings bytes)
-    (lent after : Colour → List ℕ) (number : ℕ) (p : Promise f 0 (f .height) piece lent number after)
+    (lent after : Planes) (number : ℕ) (p : Promise (asked f 0 (f .height) piece) lent number after)
     (r : length (lent Red) ≡ f .width * f .height) (g : length (lent Green) ≡ f .width * f .height) (b : length (lent Blue) ≡ f .width * f .height) where
   size : f .width * f .height ≡ frameOf bytes .width * frameOf bytes .height
   size = ap (λ (x : Frame). x .width * x .height) e
@@ -47,10 +49,9 @@ module _ (bytes : List ℕ) (well : malformed bytes ≡ false) (f : Frame) (e : 
   unfolding output
   refused h = rw (← numbered) (refused-line number _ h)
 
-  filled : (k : Colour) {plane : List ℕ} → number ≡ 0 → plane ≡ heldAfter number (stripPlane f 0 (f .height) piece k) (lent k) → plane ≡ framePlane (frameOf bytes) (readings bytes) k
-  unfolding heldAfter
-  filled k z h = h ∙ rw (z, e, m) (plane-is (frameOf bytes) (readings bytes) k)
+  filled : number ≡ 0 → (k : Colour) → after k ≡ framePlane (frameOf bytes) (readings bytes) k
+  filled z k = whole-plane f piece p z k ∙ rw (e, m)
 
   pub delivered : number ≡ 0 → output bytes ≡ lines after
   unfolding output answered
-  delivered z = rw (← numbered, z) (sym (same-lines _ _ (filled Red z (p .red)) (filled Green z (p .green)) (filled Blue z (p .blue))))
+  delivered z = rw (← numbered, z) (sym (same-lines _ _ (filled z Red) (filled z Green) (filled z Blue)))

@@ -1,25 +1,19 @@
 -- The number of a malformed file, and what holds of any other. Assumes nothing.
 use Prim.Native.Nat.{ℕ, _+_, _*_, _≤_}
-use mathlib.Core.Path.{_≡_, refl, ap, _∙_}
-use mathlib.Core.Bool.{Bool, true, false, cond, not, _||_}
+use mathlib.Core.Path.{_≡_, ap}
+use mathlib.Core.Bool.{Bool, true, false, not, _||_}
 use mathlib.Core.List.{List}
-use native.Mathlib.Nat.{mul-comm, zero-add}
 use native.Mathlib.Omega.{arith}
-use borrow.Author.Tests.{ltb-false, eqb-true, not-false, eq-eqb, ne-eqb, le-ltb}
+use borrow.Author.Tests.{ltb-false, eqb-true, not-false}
 use lib.Dec.{ltb, eqb}
 use lib.ListN.{length, drop, length-drop}
-use Rattle.bayer.specs.declared.colour.Colour.{Colour}
-use Rattle.bayer.specs.declared.frame.Frame.{Frame}
-use Rattle.bayer.specs.Condition.{outsideSizes, unknown}
-use Rattle.bayer.specs.Piece.{pieceRows}
-use Rattle.bayer.specs.Refusal.{firstOf}
 use Rattle.whole.proofs.Tests.{neither}
 use Rattle.lists.specs.Table.{table}
 use Rattle.lists.proofs.TableLaws.{length-table}
-use Rattle.strip.specs.Strip.{stripNumber, stripPlane}
-use Rattle.lists.specs.Bound.{anyAbove}
-use Rattle.bayer.proofs.RefusalLaws.{size-fits}
-use Rattle.frame_file.specs.FrameFile.{bigEndian, version, restLength, frameOf, readings, malformed, fileNumber, framePlane}
+use Rattle.bayer.specs.Refusal.{firstOf}
+use Rattle.strip.specs.Strip.{asked, stripNumber}
+use Rattle.strip.proofs.WholeFrame.{whole-number}
+use Rattle.frame_file.specs.FrameFile.{bigEndian, version, restLength, frameOf, readings, malformed, fileNumber}
 
 pub torn : (bytes : List ℕ) → malformed bytes ≡ true → fileNumber bytes ≡ 8
 unfolding fileNumber firstOf
@@ -49,37 +43,9 @@ pub readings-are : (bytes : List ℕ) {n : ℕ} → n ≡ frameOf bytes .width *
 unfolding readings
 readings-are bytes e = ap (table _) e
 
--- the whole frame as a strip: tests 3, 4 and 5 are passed
-skips : (b₁ b₂ b₃ b₄ b₅ b₆ : Bool) → (b₁ ≡ false → b₃ ≡ false) → b₄ ≡ false → b₅ ≡ false
-    → _≡_ {A = ℕ} (cond b₁ 1 (cond b₂ 2 (cond b₃ 3 (cond b₄ 4 (cond b₅ 5 (cond b₆ 6 0)))))) (cond b₁ 1 (cond b₂ 2 (cond b₆ 6 0)))
-skips true b₂ b₃ b₄ b₅ b₆ h p q = refl
-skips false b₂ b₃ b₄ b₅ b₆ h p q = rw (h refl, p, q)
-
-module _ (bytes : List ℕ) (e : malformed bytes ≡ false) {red green blue : ℕ} (r : red ≡ frameOf bytes .width * frameOf bytes .height) (g : green ≡ frameOf bytes .width * frameOf bytes .height) (b : blue ≡ frameOf bytes .width * frameOf bytes .height) where
-  pub number-is : stripNumber (frameOf bytes) 0 (frameOf bytes .height) (readings bytes) red green blue ≡ fileNumber bytes
-  unfolding stripNumber fileNumber firstOf
-  number-is = rw e (skips _ (unknown (frameOf bytes .layout)) _ _ _ (anyAbove 4095 (readings bytes)) rows piece planes)
-    where
-      turned : frameOf bytes .width * frameOf bytes .height ≡ frameOf bytes .height * frameOf bytes .width
-      turned = mul-comm (frameOf bytes .width) (frameOf bytes .height)
-
-      rows : (outsideSizes (frameOf bytes .width) || outsideSizes (frameOf bytes .height)) ≡ false → (eqb (frameOf bytes .height) 0 || ltb (frameOf bytes .height) (0 + frameOf bytes .height)) ≡ false
-      rows o =
-          let high = size-fits (frameOf bytes .height) (neither (outsideSizes (frameOf bytes .width)) (outsideSizes (frameOf bytes .height)) o .1) .0 in
-          rw (ne-eqb (frameOf bytes .height) 0 (omega arith), le-ltb (frameOf bytes .height) (0 + frameOf bytes .height) (omega arith))
-
-      long : length (readings bytes) ≡ pieceRows (frameOf bytes .height) 0 (frameOf bytes .height) * frameOf bytes .width
-      long =
-          let p : frameOf bytes .height ≡ pieceRows (frameOf bytes .height) 0 (frameOf bytes .height) = omega arith in
-          length-readings bytes ∙ turned ∙ ap (λ (x : ℕ). x * frameOf bytes .width) p
-
-      piece : not (eqb (length (readings bytes)) (pieceRows (frameOf bytes .height) 0 (frameOf bytes .height) * frameOf bytes .width)) ≡ false
-      piece = rw (eq-eqb (length (readings bytes)) (pieceRows (frameOf bytes .height) 0 (frameOf bytes .height) * frameOf bytes .width) long)
-
-      planes : (not (eqb red (frameOf bytes .height * frameOf bytes .width)) || (not (eqb green (frameOf bytes .height * frameOf bytes .width)) || not (eqb blue (frameOf bytes .height * frameOf bytes .width)))) ≡ false
-      planes = rw (eq-eqb red _ (r ∙ turned), eq-eqb green _ (g ∙ turned), eq-eqb blue _ (b ∙ turned))
-
--- and its plane
-pub plane-is : (f : Frame) (rows : List ℕ) (k : Colour) → stripPlane f 0 (f .height) rows k ≡ framePlane f rows k
-unfolding stripPlane framePlane
-plane-is f rows k = simp zero-add
+-- a strip call over the whole frame has the file's number
+pub number-is : (bytes : List ℕ) → malformed bytes ≡ false → {red green blue : ℕ}
+    → red ≡ frameOf bytes .width * frameOf bytes .height → green ≡ frameOf bytes .width * frameOf bytes .height → blue ≡ frameOf bytes .width * frameOf bytes .height
+    → stripNumber (asked (frameOf bytes) 0 (frameOf bytes .height) (readings bytes)) red green blue ≡ fileNumber bytes
+unfolding fileNumber firstOf
+number-is bytes e r g b = rw e (whole-number (frameOf bytes) (readings bytes) (length-readings bytes) r g b)

@@ -1,18 +1,15 @@
 -- The frame file, and what the small program prints of it. Assumes nothing.
 use Prim.Native.Nat.{ℕ, zero, suc, _+_, _*_}
 use mathlib.Core.Bool.{Bool, not, _||_}
-use mathlib.Core.List.{List, [], _∷_, _++_}
+use mathlib.Core.List.{List, _∷_, _++_}
 use lib.Dec.{ltb, eqb}
 use lib.ListN.{length, getD, drop}
-use Rattle.bayer.specs.declared.colour.Colour.{Colour}
+use Rattle.lists.specs.Table.{table}
 use Rattle.bayer.specs.declared.frame.Frame.{Frame}
 use Rattle.bayer.specs.Frame.{frame}
-use Rattle.bayer.specs.Condition.{frameCases}
-use Rattle.bayer.specs.Refusal.{_when_, readingOutOfRange, malformedFile, firstOf}
-use Rattle.gbtf.specs.Weights.{scale, evenWeights}
-use Rattle.demosaic.specs.Sample.{sample}
-use Rattle.lists.specs.Table.{table, joined}
-use Rattle.lists.specs.Bound.{anyAbove}
+use Rattle.bayer.specs.Condition.{frameCases, rangeCases}
+use Rattle.bayer.specs.Refusal.{_when_, malformedFile, firstOf}
+use Rattle.demosaic.specs.Sample.{framePlane}
 use Rattle.plane_text.specs.Text.{lines, answered}
 
 -- a number of n bytes from byte `at` on, big-endian
@@ -44,11 +41,7 @@ malformed bytes =
 
 -- the program's number: 8, then 1, 2, 6; 0 where none holds
 unfoldable pub fileNumber : (bytes : List ℕ) → ℕ
-fileNumber bytes = firstOf ((malformedFile when malformed bytes) ∷ (frameCases (frameOf bytes) ++ (readingOutOfRange when anyAbove 4095 (readings bytes)) ∷ []))
-
--- plane k of a whole frame, row by row
-unfoldable pub framePlane : Frame → (readings : List ℕ) (k : Colour) → List ℕ
-framePlane f readings k = joined (λ i. table (λ j. sample scale evenWeights f 0 readings k i j) (f .width)) (f .height)
+fileNumber bytes = firstOf ((malformedFile when malformed bytes) ∷ (frameCases (frameOf bytes) ++ rangeCases (readings bytes)))
 
 -- WHAT THE PROGRAM PRINTS, for any bytes
 unfoldable pub output : (bytes : List ℕ) → List ℕ

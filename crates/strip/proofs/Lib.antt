@@ -1,3 +1,4 @@
 pub mod StripLaws
 pub mod Demand2
+pub mod WholeFrame
 pub mod Demand3
