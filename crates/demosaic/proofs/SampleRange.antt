@@ -1,11 +1,10 @@
 -- The range of samples: where readings are at most 4095, every sample is at most 65520. Assumes nothing.
-use mathlib.Core.Bool.{Bool, true, false, cond}
 use mathlib.Core.List.{List}
 use Prim.Native.Nat.{ℕ, _*_, _/_, _≤_}
 use native.Mathlib.Omega.{arith}
 use lib.IntN.{ℤ, pos, _+ℤ_, _-ℤ_}
-use lib.ListN.{length}
 use Rattle.whole.specs.Floor.{floorDiv}
+use Rattle.whole.proofs.Tests.{cond-both}
 use Rattle.whole.proofs.FloorLaws.{clamp-le}
 use Rattle.lists.specs.Bound.{AllAtMost}
 use Rattle.bayer.specs.declared.colour.Colour.{Colour}
@@ -15,12 +14,8 @@ use Rattle.bayer.specs.Colour.{same}
 use Rattle.bayer.specs.Mosaic.{Mosaic, continued}
 use Rattle.green_rule.specs.Greens.{greens}
 use Rattle.green_rule.proofs.GreensLaws.{reading-range, greens-range}
-use Rattle.demosaic.specs.Fill.{fill, sumOf}
-use Rattle.demosaic.specs.Sample.{neighbours, colourDifferences, otherFrom, sampleFrom, sample}
-
-either-range : (b : Bool) (x y : ℕ) → x ≤ 4095 → y ≤ 65520 → cond b (16 * x) y ≤ 65520
-either-range true x y h l = omega arith
-either-range false x y h l = l
+use Rattle.demosaic.specs.Fill.{fill}
+use Rattle.demosaic.specs.Sample.{otherFrom, sampleFrom, sample}
 
 fill-range : (n g : ℕ) (sum : ℤ) → fill n g sum ≤ 65520
 unfolding fill
@@ -30,7 +25,7 @@ fill-range n g sum = clamp-le (floorDiv (pos (n * g) -ℤ sum +ℤ pos (n / 2)) 
 module _ (f : Frame) (m : Mosaic) (range : (i j : ℤ) → m .reading i j ≤ 4095) (G : (i j : ℤ) → ℕ) (greens-in : (i j : ℤ) → G i j ≤ 65520) (i j : ℤ) where
   other-range : (k : Colour) → otherFrom f m G k i j ≤ 65520
   unfolding otherFrom
-  other-range k = either-range (same (m .colour i j) k) (m .reading i j) (fill (length (neighbours f m k i j)) (G i j) (sumOf (colourDifferences f m G (neighbours f m k i j)))) (range i j) (fill-range _ _ _)
+  other-range k = cond-both (λ x. x ≤ 65520) (same (m .colour i j) k) _ _ (omega (arith, range i j)) (fill-range _ _ _)
 
   pub sampleFrom-range : (k : Colour) → sampleFrom f m G k i j ≤ 65520
   sampleFrom-range Red = other-range Red

@@ -7,11 +7,11 @@ use native.Mathlib.Omega.{arith}
 use lib.IntN.{ℤ, pos}
 use Rattle.whole.specs.Clamp.{clamp}
 use Rattle.demosaic.specs.Fill.{sumOf, unclamped}
-use Rattle.fill_rows.specs.Rows.{differenceAt}
+use Rattle.fill_rows.specs.Rows.{colourDifferenceAt}
 
 -- what was read at column p is what stands at column q
-pub read-at : (x g : List ℕ) {r : ℤ} (p q : ℕ) → r ≡ differenceAt x g p → p ≡ q → r ≡ differenceAt x g q
-read-at x g p q e i = e ∙ ap (differenceAt x g) i
+pub read-at : (x g : List ℕ) {r : ℤ} (p q : ℕ) → r ≡ colourDifferenceAt x g p → p ≡ q → r ≡ colourDifferenceAt x g q
+read-at x g p q e i = e ∙ ap (colourDifferenceAt x g) i
 
 pub two-same : {r : ℤ} (g : ℕ) {a b a′ b′ : ℤ} → r ≡ unclamped 2 g (sumOf (a ∷ b ∷ [])) → a ≡ a′ → b ≡ b′ → r ≡ unclamped 2 g (sumOf (a′ ∷ b′ ∷ []))
 two-same g e p q = e ∙ (λ t. unclamped 2 g (sumOf (p t ∷ q t ∷ [])))

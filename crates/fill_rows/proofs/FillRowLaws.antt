@@ -19,7 +19,7 @@ use Rattle.demosaic.specs.Sample.{Pixel, inRow, inColumn, diagonal, neighbours,
 use Rattle.lists.specs.Table.{table}
 use Rattle.bayer.specs.Parity.{isOdd, startsGreen}
 use Rattle.lists.proofs.TableLaws.{getD-table, table-same}
-use Rattle.fill_rows.specs.Rows.{leftOf, rightOf, differenceAt, ownIn, otherIn, opposite}
+use Rattle.fill_rows.specs.Rows.{leftOf, rightOf, colourDifferenceAt, ownIn, otherIn, opposite}
 use Rattle.fill_rows.proofs.SideLaws.{Read, at-read, before-read, after-read, next-read}
 use Rattle.fill_rows.proofs.RowColours.{looks, shared, row-colours, after-odd}
 
@@ -68,8 +68,8 @@ module _ (f : Frame) (first : ℕ) (rows : List ℕ) (G : (i j : ℤ) → ℕ) (
   differenceOf r c = colourDifference (G (pos r) (pos c)) (m .reading (pos r) (pos c))
 
   -- at the pixel that is read for row i and column j
-  difference-at : {r c : ℕ} (i j : ℤ) → Read (f .height) r i → Read (f .width) c j → differenceAt (row r) (greens r) c ≡ differenceOf (mirror (f .height) i) (mirror (f .width) j)
-  difference-at {r} {c} i j p q = ap₂ colourDifference (green-at r c (q .1)) (read-at r c (p .1) (q .1)) ∙ ap₂ differenceOf (p .0) (q .0)
+  colour-difference-at : {r c : ℕ} (i j : ℤ) → Read (f .height) r i → Read (f .width) c j → colourDifferenceAt (row r) (greens r) c ≡ differenceOf (mirror (f .height) i) (mirror (f .width) j)
+  colour-difference-at {r} {c} i j p q = ap₂ colourDifference (green-at r c (q .1)) (read-at r c (p .1) (q .1)) ∙ ap₂ differenceOf (p .0) (q .0)
 
   colours-at : (j : ℕ) → j ≤ f .width → looks own (m .colour (pos v) (pos j)) ≡ shared (isOdd (j + odd))
   colours-at j h = ap (looks own) (mirror-colour (f .layout) (f .height) (f .width) (pos v) (pos j) (omega arith) (omega arith)) ∙ row-colours (f .layout) v j known
@@ -84,14 +84,14 @@ module _ (f : Frame) (first : ℕ) (rows : List ℕ) (G : (i j : ℤ) → ℕ) (
 
     -- the differences at the pixels that are read for row i, left and right of this one, and at its own column
     module _ {r : ℕ} (i : ℤ) (p : Read (f .height) r i) where
-      left : differenceAt (row r) (greens r) (leftOf (f .width) j) ≡ differenceOf (mirror (f .height) i) (mirror (f .width) (pos j -ℤ pos 1))
-      left = difference-at i (pos j -ℤ pos 1) p (before-read (f .width) j wide hj)
+      left : colourDifferenceAt (row r) (greens r) (leftOf (f .width) j) ≡ differenceOf (mirror (f .height) i) (mirror (f .width) (pos j -ℤ pos 1))
+      left = colour-difference-at i (pos j -ℤ pos 1) p (before-read (f .width) j wide hj)
 
-      level : differenceAt (row r) (greens r) j ≡ differenceOf (mirror (f .height) i) (mirror (f .width) (pos j))
-      level = difference-at i (pos j) p (at-read (f .width) j wide hj)
+      level : colourDifferenceAt (row r) (greens r) j ≡ differenceOf (mirror (f .height) i) (mirror (f .width) (pos j))
+      level = colour-difference-at i (pos j) p (at-read (f .width) j wide hj)
 
-      right : differenceAt (row r) (greens r) (rightOf (f .width) j) ≡ differenceOf (mirror (f .height) i) (mirror (f .width) (pos j +ℤ pos 1))
-      right = difference-at i (pos j +ℤ pos 1) p (after-read (f .width) j wide hj)
+      right : colourDifferenceAt (row r) (greens r) (rightOf (f .width) j) ≡ differenceOf (mirror (f .height) i) (mirror (f .width) (pos j +ℤ pos 1))
+      right = colour-difference-at i (pos j +ℤ pos 1) p (after-read (f .width) j wide hj)
 
     abbrev row-above : Read (f .height) above (pos v -ℤ pos 1)
     row-above = before-read (f .height) v high hv

@@ -18,19 +18,19 @@ abbrev pub rightOf : (w j : ℕ) → ℕ
 rightOf w j = mirror w (subℕ (j + 1) 0)
 
 -- green minus 16 × reading, at column p of readings x and greens g
-abbrev pub differenceAt : (x g : List ℕ) → ℕ → ℤ
-differenceAt x g p = colourDifference (getD g p 0) (getD x p 0)
+abbrev pub colourDifferenceAt : (x g : List ℕ) → ℕ → ℤ
+colourDifferenceAt x g p = colourDifference (getD g p 0) (getD x p 0)
 
 -- the plane of the colour that shares the row with green, which is at the columns j where j + odd is odd
 unfoldable pub ownIn : (w odd : ℕ) (x g : List ℕ) (j : ℕ) → ℕ
 ownIn w odd x g j =
-    cond (isOdd (j + odd)) (fill 2 (getD g j 0) (sumOf (differenceAt x g (leftOf w j) ∷ differenceAt x g (rightOf w j) ∷ []))) (16 * getD x j 0)
+    cond (isOdd (j + odd)) (fill 2 (getD g j 0) (sumOf (colourDifferenceAt x g (leftOf w j) ∷ colourDifferenceAt x g (rightOf w j) ∷ []))) (16 * getD x j 0)
 
 -- the plane of the colour that does not, from the rows above, xa and ga, and below, xb and gb
 unfoldable pub otherIn : (w odd : ℕ) (g xa ga xb gb : List ℕ) (j : ℕ) → ℕ
 otherIn w odd g xa ga xb gb j =
-    cond (isOdd (j + odd)) (fill 2 (getD g j 0) (sumOf (differenceAt xa ga j ∷ differenceAt xb gb j ∷ [])))
-    (fill 4 (getD g j 0) (sumOf (differenceAt xa ga (leftOf w j) ∷ differenceAt xa ga (rightOf w j) ∷ differenceAt xb gb (leftOf w j) ∷ differenceAt xb gb (rightOf w j) ∷ [])))
+    cond (isOdd (j + odd)) (fill 2 (getD g j 0) (sumOf (colourDifferenceAt xa ga j ∷ colourDifferenceAt xb gb j ∷ [])))
+    (fill 4 (getD g j 0) (sumOf (colourDifferenceAt xa ga (leftOf w j) ∷ colourDifferenceAt xa ga (rightOf w j) ∷ colourDifferenceAt xb gb (leftOf w j) ∷ colourDifferenceAt xb gb (rightOf w j) ∷ [])))
 
 -- the one of red and blue that is not this one
 abbrev pub opposite : Colour → Colour

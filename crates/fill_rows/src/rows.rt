@@ -6,16 +6,16 @@ ghost use lib.ListN.{length};
 ghost use Rattle.lists.specs.Table.{table};
 ghost use Rattle.bayer.specs.Parity.{isOdd};
 ghost use Rattle.lists.specs.Bound.{AllAtMost};
-ghost use Rattle.fill_rows.specs.Rows.{leftOf, rightOf, differenceAt, ownIn, otherIn};
+ghost use Rattle.fill_rows.specs.Rows.{leftOf, rightOf, colourDifferenceAt, ownIn, otherIn};
 use bayer::mirror::mirror;
 use demosaic::fill::colour_difference;
 use demosaic::fill::diagonal;
 use demosaic::fill::pair;
 
 // Green minus 16 times the reading at column p.
-fn difference_at(x: &[u16], g: &[u16], p: usize) -> i32
+fn colour_difference_at(x: &[u16], g: &[u16], p: usize) -> i32
     requires { ⌜ (p < length (now x)) × (p < length (now g)) ⌝ }
-    ensures { λ e. ⌜ (e ≡ differenceAt (now (x .entry)) (now (g .entry)) p) × (natAbs e ≤ 1048560) ⌝ }
+    ensures { λ e. ⌜ (e ≡ colourDifferenceAt (now (x .entry)) (now (g .entry)) p) × (natAbs e ≤ 1048560) ⌝ }
 {
     colour_difference(g[p], x[p])
 }
@@ -41,7 +41,7 @@ fn own_between(x: &[u16], g: &[u16], odd: usize, l: usize, j: usize, r: usize) -
     requires { ⌜ (l ≡ leftOf (length (now x)) j) × (r ≡ rightOf (length (now x)) j) ⌝ }
     ensures { λ s. ⌜ s ≡ ownIn (length (now (x .entry))) odd (now (x .entry)) (now (g .entry)) j ⌝ }
 {
-    let filled = pair(g[j], difference_at(x, g, l), difference_at(x, g, r));
+    let filled = pair(g[j], colour_difference_at(x, g, l), colour_difference_at(x, g, r));
     let observed = 16 * (x[j] as i32);
     whole::clamp(chosen(is_green(odd, j), filled, observed))
 }
@@ -88,13 +88,13 @@ fn other_between(
     requires { ⌜ (l ≡ leftOf (length (now g)) j) × (r ≡ rightOf (length (now g)) j) ⌝ }
     ensures { λ s. ⌜ s ≡ otherIn (length (now (g .entry))) odd (now (g .entry)) (now (xa .entry)) (now (ga .entry)) (now (xb .entry)) (now (gb .entry)) j ⌝ }
 {
-    let by_column = pair(g[j], difference_at(xa, ga, j), difference_at(xb, gb, j));
+    let by_column = pair(g[j], colour_difference_at(xa, ga, j), colour_difference_at(xb, gb, j));
     let by_diagonal = diagonal(
         g[j],
-        difference_at(xa, ga, l),
-        difference_at(xa, ga, r),
-        difference_at(xb, gb, l),
-        difference_at(xb, gb, r),
+        colour_difference_at(xa, ga, l),
+        colour_difference_at(xa, ga, r),
+        colour_difference_at(xb, gb, l),
+        colour_difference_at(xb, gb, r),
     );
     whole::clamp(chosen(is_green(odd, j), by_column, by_diagonal))
 }

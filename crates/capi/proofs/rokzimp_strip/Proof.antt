@@ -19,7 +19,7 @@ same-length-3 : tie.Need-same-length-3
 same-length-3 c = search needs
 
 returns : tie.Need-returns
-returns c = rw (← c .before .before .before .before .before .before .before .before .before .before .new .ensures) (c .before .before .before .before .before .before .strip .ensures)
+returns c = let s = c .before .before .before .before .before .before in rw (← s .before .before .before .before .new .ensures) (s .strip .ensures)
 
 pub rokzimp-strip-spec : {M : Type 1} → statement M
 rokzimp-strip-spec = tie.close (tie.spec new-requires strip-requires same-length same-length-2 same-length-3 returns)

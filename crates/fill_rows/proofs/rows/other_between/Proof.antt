@@ -8,7 +8,7 @@ use mir.Syntax.{w32}
 use Rattle.whole.specs.Clamp.{clamp}
 use Rattle.whole.proofs.Signed.{read-result}
 use Rattle.demosaic.specs.Fill.{fill}
-use Rattle.fill_rows.specs.Rows.{leftOf, rightOf, differenceAt, otherIn}
+use Rattle.fill_rows.specs.Rows.{leftOf, rightOf, colourDifferenceAt, otherIn}
 use Rattle.fill_rows.proofs.SideLaws.{side-in}
 use Rattle.fill_rows.proofs.ChoiceLaws.{read-at, two-same, four-same, clamp-cond}
 use borrow.Author.Needs.{needs}
@@ -30,11 +30,11 @@ mul-pair c = search needs
 shared-slice-read-pair : tie.Need-shared-slice-read-pair
 shared-slice-read-pair c = search needs
 
-difference-at-requires : tie.Need-difference-at-requires
-difference-at-requires c κs = search needs
+colour-difference-at-requires : tie.Need-colour-difference-at-requires
+colour-difference-at-requires c κs = search needs
 
-difference-at-requires-2 : tie.Need-difference-at-requires-2
-difference-at-requires-2 c κs = search needs
+colour-difference-at-requires-2 : tie.Need-colour-difference-at-requires-2
+colour-difference-at-requires-2 c κs = search needs
 
 pair-requires : tie.Need-pair-requires
 pair-requires c κs = search needs
@@ -45,17 +45,17 @@ mul-diagonal c = search needs
 shared-slice-read-diagonal : tie.Need-shared-slice-read-diagonal
 shared-slice-read-diagonal c = search needs
 
-difference-at-requires-3 : tie.Need-difference-at-requires-3
-difference-at-requires-3 c κs = omega (arith, sides (start c))
+colour-difference-at-requires-3 : tie.Need-colour-difference-at-requires-3
+colour-difference-at-requires-3 c κs = omega (arith, sides (start c))
 
-difference-at-requires-4 : tie.Need-difference-at-requires-4
-difference-at-requires-4 c κs = omega (arith, sides (start (c .before)))
+colour-difference-at-requires-4 : tie.Need-colour-difference-at-requires-4
+colour-difference-at-requires-4 c κs = omega (arith, sides (start (c .before)))
 
-difference-at-requires-5 : tie.Need-difference-at-requires-5
-difference-at-requires-5 c κs = omega (arith, sides (start (c .before .before)))
+colour-difference-at-requires-5 : tie.Need-colour-difference-at-requires-5
+colour-difference-at-requires-5 c κs = omega (arith, sides (start (c .before .before)))
 
-difference-at-requires-6 : tie.Need-difference-at-requires-6
-difference-at-requires-6 c κs = omega (arith, sides (start (c .before .before .before)))
+colour-difference-at-requires-6 : tie.Need-colour-difference-at-requires-6
+colour-difference-at-requires-6 c κs = omega (arith, sides (start (c .before .before .before)))
 
 diagonal-requires : tie.Need-diagonal-requires
 diagonal-requires c κs = search needs
@@ -94,14 +94,14 @@ returns c =
     c .clamp .ensures
     ∙ ap clamp (read-result w32 _ (b .chosen .ok) (b .chosen .ensures))
     ∙ clamp-cond (g .is-green .ensures)
-    (read-result w32 _ (p .pair .ok) (two-same green {b′ = differenceAt xb gb j} (p .pair .ensures)
-    (read-result w32 _ (d₁ .difference-at .ok) (d₁ .difference-at .ensures .0))
-    (read-result w32 _ (d₂ .difference-at2 .ok) (d₂ .difference-at2 .ensures .0))))
+    (read-result w32 _ (p .pair .ok) (two-same green {b′ = colourDifferenceAt xb gb j} (p .pair .ensures)
+    (read-result w32 _ (d₁ .colour-difference-at .ok) (d₁ .colour-difference-at .ensures .0))
+    (read-result w32 _ (d₂ .colour-difference-at2 .ok) (d₂ .colour-difference-at2 .ensures .0))))
     (read-result w32 _ (q .diagonal .ok) (four-same green (q .diagonal .ensures)
-    (read-result w32 _ (d₃ .difference-at3 .ok) (read-at xa ga _ l (d₃ .difference-at3 .ensures .0) (omega arith)))
-    (read-result w32 _ (d₄ .difference-at4 .ok) (read-at xa ga _ r (d₄ .difference-at4 .ensures .0) (omega arith)))
-    (read-result w32 _ (d₅ .difference-at5 .ok) (read-at xb gb _ l (d₅ .difference-at5 .ensures .0) (omega arith)))
-    (read-result w32 _ (d₆ .difference-at6 .ok) (read-at xb gb _ r (d₆ .difference-at6 .ensures .0) (omega arith)))))
+    (read-result w32 _ (d₃ .colour-difference-at3 .ok) (read-at xa ga _ l (d₃ .colour-difference-at3 .ensures .0) (omega arith)))
+    (read-result w32 _ (d₄ .colour-difference-at4 .ok) (read-at xa ga _ r (d₄ .colour-difference-at4 .ensures .0) (omega arith)))
+    (read-result w32 _ (d₅ .colour-difference-at5 .ok) (read-at xb gb _ l (d₅ .colour-difference-at5 .ensures .0) (omega arith)))
+    (read-result w32 _ (d₆ .colour-difference-at6 .ok) (read-at xb gb _ r (d₆ .colour-difference-at6 .ensures .0) (omega arith)))))
 
 pub other-between-spec : {M : Type 1} → statement M
 other-between-spec =
@@ -109,15 +109,15 @@ other-between-spec =
     (tie.spec
     mul-pair
     shared-slice-read-pair
-    difference-at-requires
-    difference-at-requires-2
+    colour-difference-at-requires
+    colour-difference-at-requires-2
     pair-requires
     mul-diagonal
     shared-slice-read-diagonal
-    difference-at-requires-3
-    difference-at-requires-4
-    difference-at-requires-5
-    difference-at-requires-6
+    colour-difference-at-requires-3
+    colour-difference-at-requires-4
+    colour-difference-at-requires-5
+    colour-difference-at-requires-6
     diagonal-requires
     is-green-requires
     chosen-requires

@@ -30,11 +30,11 @@ mul-pair c = search needs
 shared-slice-read-pair : tie.Need-shared-slice-read-pair
 shared-slice-read-pair c = search needs
 
-difference-at-requires : tie.Need-difference-at-requires
-difference-at-requires c κs = omega (arith, sides (c .before .before .before))
+colour-difference-at-requires : tie.Need-colour-difference-at-requires
+colour-difference-at-requires c κs = omega (arith, sides (c .before .before .before))
 
-difference-at-requires-2 : tie.Need-difference-at-requires-2
-difference-at-requires-2 c κs = omega (arith, sides (c .before .before .before .before))
+colour-difference-at-requires-2 : tie.Need-colour-difference-at-requires-2
+colour-difference-at-requires-2 c κs = omega (arith, sides (c .before .before .before .before))
 
 pair-requires : tie.Need-pair-requires
 pair-requires c κs = search needs
@@ -76,8 +76,8 @@ returns c =
     ∙ ap clamp (read-result w32 _ (b .chosen .ok) (b .chosen .ensures))
     ∙ clamp-or (g .is-green .ensures)
     (read-result w32 _ (p .pair .ok) (two-same (getD y j 0) (p .pair .ensures)
-    (read-result w32 _ (d₁ .difference-at .ok) (read-at x y _ (leftOf (length x) j) (d₁ .difference-at .ensures .0) (omega arith)))
-    (read-result w32 _ (d₂ .difference-at2 .ok) (read-at x y _ (rightOf (length x) j) (d₂ .difference-at2 .ensures .0) (omega arith)))))
+    (read-result w32 _ (d₁ .colour-difference-at .ok) (read-at x y _ (leftOf (length x) j) (d₁ .colour-difference-at .ensures .0) (omega arith)))
+    (read-result w32 _ (d₂ .colour-difference-at2 .ok) (read-at x y _ (rightOf (length x) j) (d₂ .colour-difference-at2 .ensures .0) (omega arith)))))
     (value (observed s) tt)
     (omega (arith, s .pre .0 .5 j))
 
@@ -87,8 +87,8 @@ own-between-spec =
     (tie.spec
     mul-pair
     shared-slice-read-pair
-    difference-at-requires
-    difference-at-requires-2
+    colour-difference-at-requires
+    colour-difference-at-requires-2
     pair-requires
     mul-observed
     shared-slice-read-observed
