@@ -1,7 +1,7 @@
 -- What holds where a condition does not. Assumes nothing.
 use Prim.Native.Nat.{ℕ, zero, suc, _+_, _≤_, _<_}
 use mathlib.Core.Path.{_≡_}
-use mathlib.Core.Bool.{Bool, true, false, true≢false}
+use mathlib.Core.Bool.{true, false, true≢false}
 use mathlib.Core.List.{List}
 use native.Mathlib.Omega.{arith}
 use borrow.Author.Tests.{ltb-false}
@@ -11,7 +11,7 @@ use Rattle.lists.specs.Bound.{AllAtMost}
 use Rattle.lists.proofs.AboveLaws.{none-above}
 use Rattle.bayer.specs.declared.frame.Frame.{Frame}
 use Rattle.bayer.specs.Refusal.{firstOf}
-use Rattle.bayer.specs.Condition.{outsideSizes, frameCases, FrameFits, rowsOutside, rowsCases, rangeCases}
+use Rattle.bayer.specs.Condition.{outsideSizes, frameCases, FrameFits, rowsCases, rangeCases}
 use Rattle.bayer.proofs.RefusalLaws.{off}
 
 size-fits : (n : ℕ) → outsideSizes n ≡ false → (8 ≤ n) × (n ≤ 4096)

@@ -10,9 +10,9 @@ use Rattle.whole.proofs.Pairs.{subₚ, abs-by}
 use Rattle.bayer.specs.declared.colour.Colour.the-variants.{Green}
 use Rattle.bayer.specs.Colour.{colours, colourAt, same}
 use Rattle.bayer.specs.Mirror.{mirror}
+use Rattle.bayer.specs.Parity.{isOdd, startsGreen}
 use Rattle.bayer.proofs.MirrorLaws.{Reflected}
 use Rattle.bayer.proofs.ColourLaws.{parity-colour, mirror-colour, cells, by-layout}
-use Rattle.bayer.specs.Parity.{isOdd, startsGreen}
 
 -- whether the first cell of a layout is green
 abbrev corner : (layout : ℕ) → ℕ

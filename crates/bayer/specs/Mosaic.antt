@@ -4,12 +4,12 @@ use mathlib.Core.Bool.{Bool}
 use mathlib.Core.List.{List}
 use lib.IntN.{ℤ}
 use lib.ListN.{getD}
+use Rattle.lists.specs.Part.{rowOf}
 use Rattle.bayer.specs.declared.colour.Colour.{Colour}
 use Rattle.bayer.specs.declared.colour.Colour.the-variants.{Green}
 use Rattle.bayer.specs.declared.frame.Frame.{Frame}
 use Rattle.bayer.specs.Colour.{colourAt, same}
 use Rattle.bayer.specs.Mirror.{mirror}
-use Rattle.lists.specs.Part.{rowOf}
 
 pub record Mosaic : Type 0 where
   pub reading : (i j : ℤ) → ℕ

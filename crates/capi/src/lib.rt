@@ -2,10 +2,10 @@
 ghost use mathlib.Core.Path.{_≡_};
 ghost use Prim.Native.Nat.{_*_};
 ghost use lib.ListN.{length};
+ghost use Rattle.lists.specs.Part.{rowOf};
 ghost use Rattle.bayer.specs.Colour.{partner};
 ghost use Rattle.bayer.specs.Frame.{frame};
 ghost use Rattle.bayer.specs.Piece.{pieceStart, pieceRows};
-ghost use Rattle.lists.specs.Part.{rowOf};
 ghost use Rattle.bayer.specs.View.{rowViewNumber, partnerViewNumber, shown, shownFrom};
 ghost use Rattle.bayer.specs.Planes.{planeOf, threePlanes};
 ghost use Rattle.strip.specs.Strip.{asked, stripNumber, Promise};

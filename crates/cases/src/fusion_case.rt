@@ -1,12 +1,13 @@
 ghost use Prim.Native.Nat.{_≤_};
 ghost use lib.IntN.{natAbs};
-ghost use Rattle.gbtf.specs.Fusion.{Fitting};
+ghost use Rattle.gbtf.specs.Machine.{Fitting};
 use crate::fields::Fields;
 use crate::print;
 use gbtf::direction::Direction;
 use gbtf::fusion::green;
-use green_rows::weights::SCALE;
-use green_rows::weights::TOTAL;
+use gbtf::weights::SCALE;
+use gbtf::weights::WEIGHTS;
+use gbtf::weights::total;
 
 // A five-sum, which the case gives with 2097152 added.
 fn five_sum(a: usize) -> i64
@@ -19,8 +20,8 @@ fn direction(s: usize, a: usize) -> Direction
     ensures { λ r. ⌜ Fitting 134217728 r ⌝ }
 {
     Direction {
-        differences: five_sum(a),
-        gradients: (s % 294841) as u64,
+        five: five_sum(a),
+        sum: (s % 294841) as u64,
     }
 }
 
@@ -34,7 +35,15 @@ pub fn run(f: &Fields) {
     let west = direction(f[4], f[8]);
     let north = direction(f[5], f[9]);
     let south = direction(f[6], f[10]);
-    let g = green(SCALE, TOTAL, reading(f[2]), east, west, north, south);
+    let g = green(
+        SCALE,
+        total(WEIGHTS),
+        reading(f[2]),
+        east,
+        west,
+        north,
+        south,
+    );
     io::print_decimal(1, print::sample(g));
     io::write_all(1, b"\n");
 }

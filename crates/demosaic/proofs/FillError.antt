@@ -10,11 +10,11 @@ use Rattle.whole.specs.Floor.{floorDiv}
 use Rattle.whole.specs.Clamp.{clamp}
 use Rattle.whole.specs.Fraction.{Fraction, ratio, integer, natural, _+ᶠ_, _-ᶠ_, dividedBy, clampᶠ, Same, Within}
 use Rattle.whole.proofs.Pairs.{+ℤ-up, -ℤ-up}
-use Rattle.lists.specs.Every.{Every}
 use Rattle.whole.proofs.FractionLaws.{rounded-near, within-trans, within-add, within-sub, within-part, within-clamp, within-same, within-wider, within-from, within-to, within-less, within-eq, clamp-is}
+use Rattle.lists.specs.Every.{Every}
 use Rattle.demosaic.specs.Fill.{colourDifference, sumOf, fill}
-use Rattle.demosaic.proofs.FillLaws.{fill-even}
 use Rattle.demosaic.specs.Exact.{exactDifference, sumOfFractions, mean, exactFill}
+use Rattle.demosaic.proofs.FillLaws.{fill-even}
 
 one-is : (g s : ℕ) → Same (integer (pos g -ℤ pos s)) (natural g -ᶠ natural s)
 one-is g s = omega (arith, -ℤ-up (pos g) (pos s))

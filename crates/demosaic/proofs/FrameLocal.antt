@@ -8,16 +8,16 @@ use lib.IntN.{ℤ, pos, negsuc, _+ℤ_, _-ℤ_}
 use lib.ListN.{getD}
 use Rattle.whole.specs.Parts.{up, down}
 use Rattle.whole.proofs.Pairs.{sub-pos}
+use Rattle.lists.specs.Part.{rowOf}
+use Rattle.lists.proofs.TableLaws.{table-same}
+use Rattle.lists.proofs.JoinedLaws.{joined-same}
 use Rattle.bayer.specs.declared.colour.Colour.{Colour}
 use Rattle.bayer.specs.declared.frame.Frame.{Frame}
 use Rattle.bayer.specs.Mirror.{mirror}
 use Rattle.bayer.specs.Piece.{pieceStart, pieceEnd, pieceOf}
-use Rattle.lists.specs.Part.{rowOf}
-use Rattle.lists.proofs.TableLaws.{table-same}
-use Rattle.lists.proofs.JoinedLaws.{joined-same}
+use Rattle.bayer.specs.Mosaic.{continued}
 use Rattle.bayer.proofs.MirrorLaws.{mirror-is}
 use Rattle.bayer.proofs.PieceLaws.{piece-row}
-use Rattle.bayer.specs.Mosaic.{continued}
 use Rattle.bayer.proofs.Near.{Near, wider}
 use Rattle.green_rule.proofs.GreensLaws.{greens-local, exactGreens-local}
 use Rattle.demosaic.specs.Sample.{sample, planeRows}

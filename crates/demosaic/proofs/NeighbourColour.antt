@@ -7,16 +7,16 @@ use native.Mathlib.Nat.{mod-mod}
 use native.Mathlib.Omega.{arith}
 use lib.IntN.{ℤ, pos, natAbs, _+ℤ_, _-ℤ_}
 use Rattle.whole.proofs.Pairs.{sub-ind}
+use Rattle.lists.specs.Every.{Every}
 use Rattle.bayer.specs.declared.colour.Colour.{Colour}
 use Rattle.bayer.specs.declared.colour.Colour.the-variants.{Red, Green, Blue}
 use Rattle.bayer.specs.declared.frame.Frame.{Frame}
 use Rattle.bayer.specs.Colour.{colours, colourAt, same}
 use Rattle.bayer.specs.Mirror.{mirror}
+use Rattle.bayer.specs.Mosaic.{continued, isGreen}
 use Rattle.bayer.proofs.MirrorLaws.{Reflected, mirror-inside, mirror-parity}
 use Rattle.bayer.proofs.ColourLaws.{parity-colour, cells, by-layout}
-use Rattle.bayer.specs.Mosaic.{continued, isGreen}
 use Rattle.demosaic.specs.Sample.{Pixel, diagonal, inRow, inColumn, neighbours}
-use Rattle.lists.specs.Every.{Every}
 
 -- along an axis: what is read just before and just after a position has the other parity
 module _ (size p : ℕ) (h : 2 ≤ size) (k : p < size) where

@@ -7,7 +7,7 @@ use lib.Dec.{lit≤}
 use lib.IntN.{ℤ, pos}
 use lib.ListN.{length}
 use Rattle.whole.specs.Fraction.{Fraction, natural, Within}
-use Rattle.whole.proofs.FractionLaws.{within-same, within-wider}
+use Rattle.whole.proofs.FractionLaws.{within-same, within-wider, within-cond}
 use Rattle.lists.specs.Bound.{AllAtMost}
 use Rattle.lists.proofs.EveryLaws.{everywhere}
 use Rattle.bayer.specs.declared.colour.Colour.{Colour}
@@ -15,7 +15,6 @@ use Rattle.bayer.specs.declared.colour.Colour.the-variants.{Red, Green, Blue}
 use Rattle.bayer.specs.declared.frame.Frame.{Frame}
 use Rattle.bayer.specs.Colour.{same}
 use Rattle.bayer.specs.Mosaic.{Mosaic, continued}
-use Rattle.gbtf.proofs.GreenBound.{within-cond}
 use Rattle.green_rule.specs.Greens.{greens, exactGreens, greenThousandths}
 use Rattle.green_rule.proofs.GreensLaws.{greens-near}
 use Rattle.demosaic.specs.Fill.{fill, sumOf}

@@ -6,18 +6,18 @@ use native.Mathlib.Omega.{arith}
 use lib.IntN.{ℤ, pos, negsuc, _+ℤ_, _-ℤ_}
 use lib.ListN.{length}
 use Rattle.whole.proofs.Pairs.{sub-pos}
+use Rattle.lists.specs.Every.{Every}
+use Rattle.lists.proofs.EveryLaws.{map-same}
 use Rattle.bayer.specs.declared.colour.Colour.{Colour}
 use Rattle.bayer.specs.declared.colour.Colour.the-variants.{Red, Green, Blue}
 use Rattle.bayer.specs.declared.frame.Frame.{Frame}
 use Rattle.bayer.specs.Colour.{same}
 use Rattle.bayer.specs.Mirror.{mirror}
-use Rattle.bayer.proofs.MirrorLaws.{mirror-lt}
 use Rattle.bayer.specs.Mosaic.{Mosaic}
+use Rattle.bayer.proofs.MirrorLaws.{mirror-lt}
 use Rattle.demosaic.specs.Fill.{colourDifference, sumOf, fill}
 use Rattle.demosaic.specs.Sample.{Pixel, readingOf, neighbours, otherFrom, sampleFrom}
 use Rattle.demosaic.proofs.Neighbours.{neighbours-cases}
-use Rattle.lists.specs.Every.{Every}
-use Rattle.lists.proofs.EveryLaws.{map-same}
 
 -- along an axis: what is read just before, at and just after a position lies inside
 module _ (size p : ℕ) (h : 2 ≤ size) (k : p < size) where

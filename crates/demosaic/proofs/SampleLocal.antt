@@ -5,6 +5,8 @@ use Prim.Native.Nat.{ℕ, _*_}
 use lib.IntN.{ℤ, pos, _+ℤ_, _-ℤ_}
 use lib.ListN.{length}
 use Rattle.whole.specs.Fraction.{Fraction, natural}
+use Rattle.lists.specs.Every.{Every}
+use Rattle.lists.proofs.EveryLaws.{map-same}
 use Rattle.bayer.specs.declared.colour.Colour.{Colour}
 use Rattle.bayer.specs.declared.colour.Colour.the-variants.{Red, Green, Blue}
 use Rattle.bayer.specs.declared.frame.Frame.{Frame}
@@ -16,8 +18,6 @@ use Rattle.demosaic.specs.Fill.{colourDifference, sumOf, fill}
 use Rattle.demosaic.specs.Sample.{Pixel, colourDifferences, neighbours, otherFrom, sampleFrom}
 use Rattle.demosaic.specs.Exact.{exactDifference, exactFill, exactDifferences, exactOtherFrom, exactFrom}
 use Rattle.demosaic.proofs.Neighbours.{neighbours-cases}
-use Rattle.lists.specs.Every.{Every}
-use Rattle.lists.proofs.EveryLaws.{map-same}
 
 module _ (f : Frame) (colour : ℤ → ℤ → Colour) (m n : ℤ → ℤ → ℕ) (i : ℤ) (read-same : (r : ℤ) → Near 1 i r → (j : ℤ) → m r j ≡ n r j)
     (here : Near 1 i i) (above : Near 1 i (pos (mirror (f .height) (i -ℤ pos 1)))) (level : Near 1 i (pos (mirror (f .height) i))) (below : Near 1 i (pos (mirror (f .height) (i +ℤ pos 1)))) where

@@ -1,7 +1,8 @@
 -- Every value of the worked table of the exact reconstruction holds, by computation. The whole-number green is unfolded beside the exact one, so that a rule over it is refused by its values. Assumes nothing.
+use Rattle.lists.specs.Part.{rowOf}
+use Rattle.lists.specs.Every.{Every}
 use Rattle.bayer.specs.Colour.{colours, colourAt}
 use Rattle.bayer.specs.Mirror.{mirror}
-use Rattle.lists.specs.Part.{rowOf}
 use Rattle.gbtf.specs.Difference.{difference}
 use Rattle.gbtf.specs.Fusion.{fusion, green}
 use Rattle.gbtf.specs.Exact.{sumOver/t², exactGreen}
@@ -9,7 +10,6 @@ use Rattle.gbtf.specs.GreenAt.{DH, DV, GH, GV, greenAt, exactGreenAt}
 use Rattle.green_rule.specs.Greens.{greens, exactGreens}
 use Rattle.demosaic.specs.Sample.{neighbours}
 use Rattle.demosaic.specs.Exact.{mean, exactFill, exactOtherFrom, exactSample}
-use Rattle.lists.specs.Every.{Every}
 use Rattle.figures.specs.Worked.{exactHolds}
 use Rattle.figures.specs.WorkedExact.{exact₀, exact₁, exact₂, exact₃, workedExact}
 use Rattle.figures.proofs.Tables.{_and_}

@@ -7,20 +7,20 @@ use native.Mathlib.Omega.{arith}
 use lib.Dec.{T, lit≤}
 use lib.IntN.{ℤ, pos, negsuc, _+ℤ_, _*ℤ_}
 use Rattle.whole.proofs.Pairs.{Pair, anyₚ, natₚ, _+ₚ_, _*ₚ_, eq-by, eq-of}
+use Rattle.lists.specs.Part.{rowOf}
+use Rattle.lists.specs.Every.{Every}
 use Rattle.bayer.specs.declared.colour.Colour.the-variants.{Green}
 use Rattle.bayer.specs.Colour.{colours, colourAt}
 use Rattle.bayer.specs.Mirror.{mirror}
-use Rattle.lists.specs.Part.{rowOf}
 use Rattle.gbtf.specs.declared.direction.Direction.{Direction}
 use Rattle.gbtf.specs.Difference.{difference}
-use Rattle.gbtf.specs.Direction.{t}
-use Rattle.gbtf.specs.Fusion.{smallest, share, shares, sharedDifferences, fusion, green}
+use Rattle.gbtf.specs.Direction.{guardedSum}
+use Rattle.gbtf.specs.Fusion.{smallestSum, share, shares, sharedDifferences, fusion, green}
 use Rattle.gbtf.specs.GreenAt.{DH, DV, GH, GV, greenAt}
 use Rattle.gbtf.specs.Weights.{scale}
 use Rattle.green_rule.specs.Greens.{greens}
 use Rattle.demosaic.specs.Fill.{fill}
 use Rattle.demosaic.specs.Sample.{neighbours, otherFrom, sample}
-use Rattle.lists.specs.Every.{Every}
 use Rattle.figures.specs.Rule.{planeIs}
 use Rattle.figures.specs.Figures.{adds, frame8, readings8, holds, figures}
 use Rattle.figures.proofs.Tables.{_and_}
@@ -31,24 +31,24 @@ use Rattle.figures.proofs.PlaneTests.{planes-are}
 smallest-of-equal : (a b c d : ℕ) → a ≡ b → a ≡ c → a ≡ d → min a (min b (min c d)) ≡ a
 smallest-of-equal a b c d p q r = omega arith
 
-module _ (sum : ℤ) (e w n s : Direction) (p : t e ≡ t w) (q : t e ≡ t n) (r : t e ≡ t s) (h : e .differences +ℤ w .differences +ℤ n .differences +ℤ s .differences ≡ sum) where
+module _ (sum : ℤ) (e w n s : Direction) (p : guardedSum e ≡ guardedSum w) (q : guardedSum e ≡ guardedSum n) (r : guardedSum e ≡ guardedSum s) (h : e .five +ℤ w .five +ℤ n .five +ℤ s .five ≡ sum) where
   abbrev others : List Direction
   others = w ∷ n ∷ s ∷ []
 
-  share-is : (u : ℕ) → t e ≡ u → share scale (smallest e others) u ≡ scale
-  share-is u k = rw (smallest-of-equal (t e) (t w) (t n) (t s) p q r ∙ k, ← k) (mul-div-cancel scale (mul-pos (omega arith) (omega arith)))
+  share-is : (u : ℕ) → guardedSum e ≡ u → share scale (smallestSum e others) u ≡ scale
+  share-is u k = rw (smallest-of-equal (guardedSum e) (guardedSum w) (guardedSum n) (guardedSum s) p q r ∙ k, ← k) (mul-div-cancel scale (mul-pos (omega arith) (omega arith)))
 
-  abbrev A : (d : Direction) → Pair (d .differences)
-  A d = anyₚ (d .differences)
+  abbrev A : (d : Direction) → Pair (d .five)
+  A d = anyₚ (d .five)
 
-  N-is : sharedDifferences scale (smallest e others) (e ∷ others) ≡ pos scale *ℤ sum
+  N-is : sharedDifferences scale (smallestSum e others) (e ∷ others) ≡ pos scale *ℤ sum
   N-is =
-      (λ x. pos (share-is (t e) refl x) *ℤ e .differences
-      +ℤ (pos (share-is (t w) p x) *ℤ w .differences +ℤ (pos (share-is (t n) q x) *ℤ n .differences +ℤ (pos (share-is (t s) r x) *ℤ s .differences +ℤ pos 0))))
+      (λ x. pos (share-is (guardedSum e) refl x) *ℤ e .five
+      +ℤ (pos (share-is (guardedSum w) p x) *ℤ w .five +ℤ (pos (share-is (guardedSum n) q x) *ℤ n .five +ℤ (pos (share-is (guardedSum s) r x) *ℤ s .five +ℤ pos 0))))
       ∙ eq-by (scale *ₚ A e +ₚ (scale *ₚ A w +ₚ (scale *ₚ A n +ₚ (scale *ₚ A s +ₚ natₚ 0)))) (scale *ₚ anyₚ sum) (omega (arith, eq-of (A e +ₚ A w +ₚ A n +ₚ A s) (anyₚ sum) h))
 
-  S-is : shares scale (smallest e others) (e ∷ others) ≡ 4 * scale
-  S-is = λ x. share-is (t e) refl x + (share-is (t w) p x + (share-is (t n) q x + (share-is (t s) r x + 0)))
+  S-is : shares scale (smallestSum e others) (e ∷ others) ≡ 4 * scale
+  S-is = λ x. share-is (guardedSum e) refl x + (share-is (guardedSum w) p x + (share-is (guardedSum n) q x + (share-is (guardedSum s) r x + 0)))
 
   adds-is : adds e others ≡ fusion (pos scale *ℤ sum) (4 * scale) 5
   adds-is = ap₂ (λ N S. fusion N S 5) N-is S-is

@@ -1,17 +1,17 @@
 -- The figure 51 cannot become 50: a frame whose green is more than 50 hundredths away from the exact reconstruction, by computation; and a strip call delivers it. Assumes nothing.
 use mathlib.Core.Path.{_≡_, refl, _∙_, ap, subst}
-use mathlib.Core.List.{List}
 use Prim.Native.Nat.{ℕ}
 use lib.Dec.{le→leb, lit≤}
 use lib.ListN.{length, getD}
 use Rattle.whole.specs.Fraction.{natural, Within}
+use Rattle.lists.specs.Part.{rowOf}
+use Rattle.lists.specs.Bound.{anyAbove}
 use Rattle.bayer.specs.declared.colour.Colour.{Colour}
 use Rattle.bayer.specs.declared.colour.Colour.the-variants.{Red, Green, Blue}
 use Rattle.bayer.specs.Colour.{colours, colourAt}
 use Rattle.bayer.specs.Mirror.{mirror}
 use Rattle.bayer.specs.Planes.{Planes}
 use Rattle.bayer.specs.Refusal.{firstOf}
-use Rattle.lists.specs.Part.{rowOf}
 use Rattle.gbtf.specs.Difference.{difference}
 use Rattle.gbtf.specs.Fusion.{fusion, green}
 use Rattle.gbtf.specs.Exact.{sumOver/t², exactGreen}
@@ -19,9 +19,8 @@ use Rattle.gbtf.specs.GreenAt.{DH, DV, GH, GV, greenAt, exactGreenAt}
 use Rattle.green_rule.specs.Greens.{greens, exactGreens}
 use Rattle.demosaic.specs.Sample.{sample}
 use Rattle.demosaic.specs.Exact.{exactSample}
-use Rattle.lists.specs.Bound.{anyAbove}
-use Rattle.strip.specs.Strip.{asked, stripNumber, Promise}
 use Rattle.demosaic.proofs.PlaneRowsLaws.{plane-at}
+use Rattle.strip.specs.Strip.{asked, stripNumber, Promise}
 use Rattle.strip.proofs.Demand2.{accepted-plane}
 use Rattle.figures.specs.Figures.{frame8}
 use Rattle.figures.specs.Sharpness.{readings50}

@@ -2,17 +2,17 @@
 use Prim.Native.Nat.{_≤_}
 use mathlib.Core.Bool.{Bool}
 use lib.Dec.{T, lit≤}
+use Rattle.lists.specs.Part.{rowOf}
+use Rattle.lists.specs.Every.{Every}
 use Rattle.bayer.specs.declared.colour.Colour.the-variants.{Red, Green, Blue}
 use Rattle.bayer.specs.Colour.{colours, colourAt}
 use Rattle.bayer.specs.Mirror.{mirror}
-use Rattle.lists.specs.Part.{rowOf}
 use Rattle.gbtf.specs.Difference.{difference}
 use Rattle.gbtf.specs.Fusion.{fusion, green}
 use Rattle.gbtf.specs.GreenAt.{DH, DV, GH, GV, greenAt}
 use Rattle.green_rule.specs.Greens.{greens}
 use Rattle.demosaic.specs.Fill.{fill}
 use Rattle.demosaic.specs.Sample.{neighbours, otherFrom, sample}
-use Rattle.lists.specs.Every.{Every}
 use Rattle.figures.specs.Rule.{planeIs}
 use Rattle.figures.specs.Worked.{PlanesClaim, givesPlanes, listed, planesHold}
 use Rattle.figures.specs.WorkedPlanes.{planes₀, planes₁, planes₂, planes₃, workedPlanes}

@@ -12,8 +12,8 @@ use Rattle.bayer.specs.Frame.{frame}
 use Rattle.bayer.specs.Mirror.{mirror}
 use Rattle.gbtf.specs.declared.direction.Direction.{Direction}
 use Rattle.gbtf.specs.Difference.{difference}
-use Rattle.gbtf.specs.Direction.{guarded, direction, t}
-use Rattle.gbtf.specs.Fusion.{smallest, share, shares, sharedDifferences, fusion}
+use Rattle.gbtf.specs.Direction.{guarded, direction, guardedSum}
+use Rattle.gbtf.specs.Fusion.{smallestSum, share, shares, sharedDifferences, fusion}
 use Rattle.gbtf.specs.Weights.{scale}
 use Rattle.demosaic.specs.Fill.{fill}
 use Rattle.demosaic.specs.Exact.{printedError}
@@ -41,7 +41,7 @@ equal (negsuc m) (pos n) = false
 equal (negsuc m) (negsuc n) = eqb m n
 
 abbrev pub adds : Direction → List Direction → ℤ
-adds d l = fusion (sharedDifferences scale (smallest d l) (d ∷ l)) (shares scale (smallest d l) (d ∷ l)) 5
+adds d l = fusion (sharedDifferences scale (smallestSum d l) (d ∷ l)) (shares scale (smallestSum d l) (d ∷ l)) 5
 
 -- n times over
 abbrev pub repeated : ℕ → List ℕ → List ℕ
@@ -57,10 +57,10 @@ readings8 red green blue = repeated 4 (repeated 4 (red ∷ green ∷ []) ++ repe
 abbrev pub holds : Claim → Type 0
 holds (differenceIs b c l r p q z) = T (equal (difference b c l r p q) z)
 holds (sharesAre t₁ t₂ t₃ t₄ q₁ q₂ q₃ q₄) =
-    let m = smallest (direction (pos 0) t₁) (direction (pos 0) t₂ ∷ direction (pos 0) t₃ ∷ direction (pos 0) t₄ ∷ []) in
+    let m = smallestSum (direction (pos 0) t₁) (direction (pos 0) t₂ ∷ direction (pos 0) t₃ ∷ direction (pos 0) t₄ ∷ []) in
     T (eqb (share scale m (guarded t₁)) q₁ && (eqb (share scale m (guarded t₂)) q₂ && (eqb (share scale m (guarded t₃)) q₃ && eqb (share scale m (guarded t₄)) q₄)))
 holds (fusionAdds sum z) =
-    (e w n s : Direction) → t e ≡ t w → t e ≡ t n → t e ≡ t s → e .differences +ℤ w .differences +ℤ n .differences +ℤ s .differences ≡ sum → adds e (w ∷ n ∷ s ∷ []) ≡ z
+    (e w n s : Direction) → guardedSum e ≡ guardedSum w → guardedSum e ≡ guardedSum n → guardedSum e ≡ guardedSum s → e .five +ℤ w .five +ℤ n .five +ℤ s .five ≡ sum → adds e (w ∷ n ∷ s ∷ []) ≡ z
 holds (fillIs n g sum v) = T (eqb (fill n g sum) v)
 holds (planesOf red green blue R G B) = PlanesAre frame8 (readings8 red green blue) (λ i j. R) (λ i j. G) (λ i j. B)
 holds (mirrorReads size z v) = T (eqb (mirror size z) v)

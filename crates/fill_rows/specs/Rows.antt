@@ -7,8 +7,8 @@ use lib.ListN.{getD}
 use Rattle.bayer.specs.declared.colour.Colour.{Colour}
 use Rattle.bayer.specs.declared.colour.Colour.the-variants.{Red, Green, Blue}
 use Rattle.bayer.specs.Mirror.{mirror}
-use Rattle.demosaic.specs.Fill.{colourDifference, sumOf, fill}
 use Rattle.bayer.specs.Parity.{isOdd}
+use Rattle.demosaic.specs.Fill.{colourDifference, sumOf, fill}
 
 -- the columns that are read left and right of column j, in a row w wide
 abbrev pub leftOf : (w j : ℕ) → ℕ

@@ -1,63 +1,60 @@
 -- The sharp error of green at every place of a continued mosaic whose readings are at most 4095: 1/2 + 393120 / K. Assumes nothing.
 use mathlib.Core.Path.{refl}
 use mathlib.Core.List.{List, [], _∷_}
-use mathlib.Core.Bool.{Bool, true, false, cond}
+use mathlib.Core.Bool.{Bool}
 use Prim.Native.Nat.{ℕ, _+_, _*_, _≤_, _<_}
 use native.Mathlib.Omega.{arith}
 use lib.IntN.{ℤ, pos, natAbs, subℕ, _+ℤ_, _-ℤ_}
 use Rattle.whole.specs.Fraction.{Fraction, ratio, natural, Within, Same}
 use Rattle.whole.proofs.Distance.{is-quotient}
-use Rattle.whole.proofs.FractionLaws.{within-same, within-wider}
-use Rattle.gbtf.specs.Direction.{directionSum, total}
+use Rattle.whole.proofs.FractionLaws.{within-same, within-wider, within-cond}
 use Rattle.bayer.specs.Mosaic.{Mosaic, isGreen}
+use Rattle.gbtf.specs.Bounds.{mostDifference, mostGradient, mostSum}
+use Rattle.gbtf.specs.Direction.{directionSum, total}
 use Rattle.gbtf.specs.GreenAt.{differenceAlong, DH, DV, GH, GV, window, east, west, north, south, greenAt, exactGreenAt}
-use Rattle.gbtf.proofs.PixelLaws.{difference-within, gradient-within, direction-sum-within, five-sum-within}
+use Rattle.gbtf.proofs.PixelBounds.{difference-within, gradient-within, direction-sum-within, five-sum-within}
 use Rattle.gbtf.proofs.GreenError.{green-within}
 
 -- g units are within 1/2 + 393120 / K of G
-abbrev pub Sharp : (K g : ℕ) → Fraction → Type 0
-Sharp K g G = Within (natural g) G (K + 786240) (2 * K)
+abbrev pub WithinSharp : (K g : ℕ) → Fraction → Type 0
+WithinSharp K g G = Within (natural g) G (K + 786240) (2 * K)
 
-pub exact-sharp : (K n : ℕ) → Sharp K n (natural n)
+pub exact-sharp : (K n : ℕ) → WithinSharp K n (natural n)
 exact-sharp K n = within-wider {b = 1} (K + 786240) (2 * K) (omega arith) (omega arith) (within-same {x = natural n} {y = natural n} 1 refl)
 
-pub within-cond : (b : Bool) {x y : ℕ} {X Y : Fraction} {a c : ℕ} → Within (natural x) X a c → Within (natural y) Y a c → Within (natural (cond b x y)) (cond b X Y) a c
-within-cond true h k = h
-within-cond false h k = k
-
 -- along a line of readings, in a row or in a column
-along-bound : (green : ℤ → Bool) (x : ℤ → ℕ) → ((k : ℤ) → x k ≤ 4095) → (k : ℤ) → natAbs (differenceAlong green x k) ≤ 16380
+along-bound : (green : ℤ → Bool) (x : ℤ → ℕ) → ((k : ℤ) → x k ≤ 4095) → (k : ℤ) → natAbs (differenceAlong green x k) ≤ mostDifference
 along-bound green x range k = difference-within (green k) (record { centre = range _; left = range _; right = range _; second = range _; other = range _ })
 
-sum-bound : (G : ℤ → ℤ → ℕ) → ((i j : ℤ) → G i j ≤ 32760) → (i j : ℤ) → directionSum (window G i j) ≤ 294840
+sum-bound : (G : ℤ → ℤ → ℕ) → ((i j : ℤ) → G i j ≤ mostGradient) → (i j : ℤ) → directionSum (window G i j) ≤ mostSum
 sum-bound G h i j = direction-sum-within (h _ _) (h _ _) (h _ _) (h _ _) (h _ _) (h _ _) (h _ _) (h _ _) (h _ _)
 
 module _ (m : Mosaic) (range : (i j : ℤ) → m .reading i j ≤ 4095) where
-  pub DH-bound : (i j : ℤ) → natAbs (DH m i j) ≤ 16380
+  pub DH-bound : (i j : ℤ) → natAbs (DH m i j) ≤ mostDifference
   unfolding DH
   DH-bound i j = along-bound (λ k. isGreen m i k) (λ k. m .reading i k) (λ k. range i k) j
 
-  pub DV-bound : (i j : ℤ) → natAbs (DV m i j) ≤ 16380
+  pub DV-bound : (i j : ℤ) → natAbs (DV m i j) ≤ mostDifference
   unfolding DV
   DV-bound i j = along-bound (λ k. isGreen m k j) (λ k. m .reading k j) (λ k. range k j) i
 
-  GH-bound : (i j : ℤ) → GH m i j ≤ 32760
+  GH-bound : (i j : ℤ) → GH m i j ≤ mostGradient
   unfolding GH
   GH-bound i j = gradient-within (DH m i (j -ℤ pos 1)) (DH m i (j +ℤ pos 1)) (DH-bound i (j -ℤ pos 1)) (DH-bound i (j +ℤ pos 1))
 
-  GV-bound : (i j : ℤ) → GV m i j ≤ 32760
+  GV-bound : (i j : ℤ) → GV m i j ≤ mostGradient
   unfolding GV
   GV-bound i j = gradient-within (DV m (i -ℤ pos 1) j) (DV m (i +ℤ pos 1) j) (DV-bound (i -ℤ pos 1) j) (DV-bound (i +ℤ pos 1) j)
 
-  -- each direction sum is at most 294840
-  pub direction-sums-bound : (ws : List ℕ) (i j : ℤ) → (east ws m i j .gradients ≤ 294840) × (west ws m i j .gradients ≤ 294840) × (north ws m i j .gradients ≤ 294840) × (south ws m i j .gradients ≤ 294840)
+  -- of each direction
+  pub direction-sums-bound : (ws : List ℕ) (i j : ℤ) → (east ws m i j .sum ≤ mostSum) × (west ws m i j .sum ≤ mostSum) × (north ws m i j .sum ≤ mostSum) × (south ws m i j .sum ≤ mostSum)
   direction-sums-bound ws i j = (sum-bound (GH m) GH-bound _ _, sum-bound (GH m) GH-bound _ _, sum-bound (GV m) GV-bound _ _, sum-bound (GV m) GV-bound _ _)
 
-  pub greenAt-sharp : (ws : List ℕ) (hT : 0 < total ws) (K : ℕ) → 0 < K → (i j : ℤ) → Sharp K (greenAt ws m i j K) (exactGreenAt ws m i j hT)
+  pub greenAt-sharp : (ws : List ℕ) (hT : 0 < total ws) (K : ℕ) → 0 < K → (i j : ℤ) → WithinSharp K (greenAt ws m i j K) (exactGreenAt ws m i j hT)
   unfolding greenAt exactGreenAt
   greenAt-sharp ws hT K hK i j =
       within-cond (isGreen m i j) (exact-sharp K (16 * m .reading i j))
-      (green-within K (total ws) (m .reading i j) hK hT 16380 (east ws m i j) (west ws m i j ∷ north ws m i j ∷ south ws m i j ∷ []) (
+      (green-within K (total ws) (m .reading i j) hK hT mostDifference (east ws m i j) (west ws m i j ∷ north ws m i j ∷ south ws m i j ∷ []) (
         five-sum-within ws (λ k. DH m i (j +ℤ pos k)) (λ k. DH-bound i (j +ℤ pos k)),
         (
           five-sum-within ws (λ k. DH m i (j -ℤ pos k)) (λ k. DH-bound i (j -ℤ pos k)),

@@ -9,14 +9,17 @@ use lib.Dec.{lit≤}
 use lib.IntN.{ℤ, pos, _+ℤ_, _-ℤ_}
 use Rattle.whole.specs.Fraction.{natural}
 use Rattle.bayer.specs.declared.colour.Colour.{Colour}
+use Rattle.bayer.specs.Mosaic.{Mosaic, isGreen}
 use Rattle.bayer.proofs.Near.{Near, wider, plus, minus, back}
 use Rattle.gbtf.specs.Difference.{difference, gradient}
-use Rattle.gbtf.specs.Direction.{directionSum, total, direction}
+use Rattle.gbtf.specs.Direction.{directionSum, fiveSum, total, direction}
 use Rattle.gbtf.specs.Fusion.{green}
 use Rattle.gbtf.specs.Exact.{exactGreen}
-use Rattle.bayer.specs.Mosaic.{Mosaic, isGreen}
-use Rattle.gbtf.proofs.PixelLaws.{five-sum-same}
 use Rattle.gbtf.specs.GreenAt.{DH, DV, GH, GV, threeFrom, window, east, west, north, south, greenAt, exactGreenAt}
+
+-- five-sums of differences that are the same
+pub five-sum-same : (ws : List ℕ) (D E : ℕ → ℤ) → ((k : ℕ) → k ≤ 4 → D k ≡ E k) → fiveSum ws D ≡ fiveSum ws E
+five-sum-same ws D E h = rw (h 0 (lit≤ tt), h 1 (lit≤ tt), h 2 (lit≤ tt), h 3 (lit≤ tt), h 4 (lit≤ tt))
 
 -- windows whose three rows are the same
 window-same : (G F : ℤ → ℤ → ℕ) (i j : ℤ) → G i ≡ F i → G (i +ℤ pos 1) ≡ F (i +ℤ pos 1) → G (i +ℤ pos 2) ≡ F (i +ℤ pos 2) → directionSum (window G i j) ≡ directionSum (window F i j)
@@ -35,7 +38,9 @@ module _ (colour : ℤ → ℤ → Colour) (m n : ℤ → ℤ → ℕ) (i : ℤ)
 
   DV-same : (r : ℤ) → Near 5 i r → DV x r ≡ DV y r
   unfolding DV
-  DV-same r h = λ t j. difference (isGreen x r j) (agree r (wider 7 r h (lit≤ tt)) t j) (agree (r -ℤ pos 1) (minus 7 1 r h (lit≤ tt)) t j) (agree (r +ℤ pos 1) (plus 7 1 r h (lit≤ tt)) t j) (agree (r -ℤ pos 2) (minus 7 2 r h (lit≤ tt)) t j) (agree (r +ℤ pos 2) (plus 7 2 r h (lit≤ tt)) t j)
+  DV-same r h =
+      λ t j. difference (isGreen x r j) (agree r (wider 7 r h (lit≤ tt)) t j) (agree (r -ℤ pos 1) (minus 7 1 r h (lit≤ tt)) t j) (agree (r +ℤ pos 1) (plus 7 1 r h (lit≤ tt)) t j)
+      (agree (r -ℤ pos 2) (minus 7 2 r h (lit≤ tt)) t j) (agree (r +ℤ pos 2) (plus 7 2 r h (lit≤ tt)) t j)
 
   GH-same : (r : ℤ) → Near 7 i r → GH x r ≡ GH y r
   unfolding GH
@@ -47,14 +52,14 @@ module _ (colour : ℤ → ℤ → Colour) (m n : ℤ → ℤ → ℕ) (i : ℤ)
 
   module _ (ws : List ℕ) (r : ℤ) (h : Near 1 i r) (j : ℤ) where
     -- the gradients along rows r − 1 to r + 1, from any column on
-    across : (k : ℤ) → directionSum (window (GH x) (r -ℤ pos 1) k) ≡ directionSum (window (GH y) (r -ℤ pos 1) k)
-    across k = window-same (GH x) (GH y) (r -ℤ pos 1) k (GH-same _ (minus 7 1 r h (lit≤ tt))) (GH-same _ (back 7 1 1 r h (lit≤ tt) (lit≤ tt))) (GH-same _ (back 7 1 2 r h (lit≤ tt) (lit≤ tt)))
+    GH-window-same : (k : ℤ) → directionSum (window (GH x) (r -ℤ pos 1) k) ≡ directionSum (window (GH y) (r -ℤ pos 1) k)
+    GH-window-same k = window-same (GH x) (GH y) (r -ℤ pos 1) k (GH-same _ (minus 7 1 r h (lit≤ tt))) (GH-same _ (back 7 1 1 r h (lit≤ tt) (lit≤ tt))) (GH-same _ (back 7 1 2 r h (lit≤ tt) (lit≤ tt)))
 
     east-same : east ws x r j ≡ east ws y r j
-    east-same = ap₂ direction (five-sum-same ws _ _ (λ k l. ap (λ D. D (j +ℤ pos k)) (DH-same r (wider 7 r h (lit≤ tt))))) (across j)
+    east-same = ap₂ direction (five-sum-same ws _ _ (λ k l. ap (λ D. D (j +ℤ pos k)) (DH-same r (wider 7 r h (lit≤ tt))))) (GH-window-same j)
 
     west-same : west ws x r j ≡ west ws y r j
-    west-same = ap₂ direction (five-sum-same ws _ _ (λ k l. ap (λ D. D (j -ℤ pos k)) (DH-same r (wider 7 r h (lit≤ tt))))) (across (j -ℤ pos 2))
+    west-same = ap₂ direction (five-sum-same ws _ _ (λ k l. ap (λ D. D (j -ℤ pos k)) (DH-same r (wider 7 r h (lit≤ tt))))) (GH-window-same (j -ℤ pos 2))
 
     north-same : north ws x r j ≡ north ws y r j
     north-same = ap₂ direction

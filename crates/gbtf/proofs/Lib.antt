@@ -1,4 +1,6 @@
-pub mod PixelLaws
+pub mod PixelBounds
+pub mod MachineBounds
+pub mod PrintedForms
 pub mod Mean
 pub mod GreenError
 pub mod GreenBound

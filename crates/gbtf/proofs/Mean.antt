@@ -6,15 +6,15 @@ use native.Mathlib.Nat.{mul-pos, mul-le-mul-left, le-of-mul-le-mul-left, div-add
 use native.Mathlib.Decide.{decLe}
 use native.Mathlib.Omega.{arith}
 use lib.ListN.{length}
+use Rattle.whole.proofs.FractionLaws.{both}
 use Rattle.lists.specs.Every.{Every}
 use Rattle.lists.proofs.EveryLaws.{every}
-use Rattle.whole.proofs.FractionLaws.{both}
 use Rattle.gbtf.specs.declared.direction.Direction.{Direction}
-use Rattle.gbtf.specs.Direction.{t}
-use Rattle.gbtf.specs.Fusion.{smallest, share, shares}
+use Rattle.gbtf.specs.Direction.{guardedSum}
+use Rattle.gbtf.specs.Fusion.{smallestSum, share, shares}
 
 abbrev pub square : Direction → ℕ
-square d = t d * t d
+square d = guardedSum d * guardedSum d
 
 square-pos : (d : Direction) → 0 < square d
 square-pos d = mul-pos (omega arith) (omega arith)
@@ -112,7 +112,8 @@ cancel M p mf mg sf sg R e h k = le-of-mul-le-mul-left {k = p} (omega (arith, ap
 
 pub means : (M B : ℕ) (a b : Direction → ℕ) (l : List Direction) → Every (λ d. a d ≤ B) l → Every (λ d. b d ≤ B) l
     → shared M b l * mixed one l + mixed a l * shared M one l ≤ shared M a l * mixed one l + mixed b l * shared M one l + (2 * B * mixed one l) * loose M l
-means M B a b l ha hb = rw (shared-linear M b P Ea l, shared-linear M a P Eb l) at (cancel M (prod l) (mixed f l) (mixed g l) (shared M f l) (shared M g l) ((2 * B * P) * loose M l) same (near M f g (2 * B * P) l (spread l ha)) (prod-pos l))
+means M B a b l ha hb =
+    rw (shared-linear M b P Ea l, shared-linear M a P Eb l) at (cancel M (prod l) (mixed f l) (mixed g l) (shared M f l) (shared M g l) ((2 * B * P) * loose M l) same (near M f g (2 * B * P) l (spread l ha)) (prod-pos l))
   where
     P : ℕ
     P = mixed one l
@@ -138,16 +139,16 @@ means M B a b l ha hb = rw (shared-linear M b P Ea l, shared-linear M a P Eb l) 
 -- ---- a direction with t = m has an exact share, K
 
 pub data Attained (m : ℕ) : List Direction → Type 0 where
-  here : {d : Direction} {l : List Direction} → t d ≡ m → Attained m (d ∷ l)
+  here : {d : Direction} {l : List Direction} → guardedSum d ≡ m → Attained m (d ∷ l)
   there : {d : Direction} {l : List Direction} → Attained m l → Attained m (d ∷ l)
 
-pub attained : (d : Direction) (l : List Direction) → Attained (smallest d l) (d ∷ l)
+pub attained : (d : Direction) (l : List Direction) → Attained (smallestSum d l) (d ∷ l)
 attained d [] = here refl
-attained d (e ∷ l) = go (decLe (t d) (smallest e l)) (attained e l)
+attained d (e ∷ l) = go (decLe (guardedSum d) (smallestSum e l)) (attained e l)
   where
-    go : Dec (t d ≤ smallest e l) → Attained (smallest e l) (e ∷ l) → Attained (min (t d) (smallest e l)) (d ∷ e ∷ l)
-    go (yes h) r = let q : t d ≡ min (t d) (smallest e l) = omega arith in here q
-    go (no h) r = there (let q : min (t d) (smallest e l) ≡ smallest e l = omega arith in rw (← q) at r)
+    go : Dec (guardedSum d ≤ smallestSum e l) → Attained (smallestSum e l) (e ∷ l) → Attained (min (guardedSum d) (smallestSum e l)) (d ∷ e ∷ l)
+    go (yes h) r = let q : guardedSum d ≡ min (guardedSum d) (smallestSum e l) = omega arith in here q
+    go (no h) r = there (let q : min (guardedSum d) (smallestSum e l) ≡ smallestSum e l = omega arith in rw (← q) at r)
 
 pub loose-length : (M : ℕ) (l : List Direction) → loose M l ≤ length l
 unfolding loose
@@ -159,10 +160,10 @@ unfolding loose
 loose-less K {m} (here {d = d} {l = l} e) = let z : K * (m * m) % square d ≡ 0 = rw e (mul-mod-left K (m * m)) in rw z (omega (arith, loose-length (K * (m * m)) l))
 loose-less K (there {d = d} {l = l} h) = omega (arith, loose-less K h)
 
-pub least-pos : (d : Direction) (l : List Direction) → 0 < smallest d l
+pub least-pos : (d : Direction) (l : List Direction) → 0 < smallestSum d l
 least-pos d [] = omega arith
 least-pos d (e ∷ l) = omega (arith, least-pos e l)
 
 pub shares-least : (K : ℕ) {m : ℕ} {l : List Direction} → 0 < m → Attained m l → K ≤ shares K m l
-shares-least K {m} p (here {d = d} {l = l} e) = let z : share K m (t d) ≡ K = rw e (mul-div-cancel K (mul-pos p p)) in omega arith
+shares-least K {m} p (here {d = d} {l = l} e) = let z : share K m (guardedSum d) ≡ K = rw e (mul-div-cancel K (mul-pos p p)) in omega arith
 shares-least K p (there {d = d} {l = l} h) = omega (arith, shares-least K p h)

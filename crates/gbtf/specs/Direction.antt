@@ -12,7 +12,7 @@ sum3 f = f 0 + f 1 + f 2
 abbrev pub directionSum : List (List ℕ) → ℕ
 directionSum w = sum3 (λ i. sum3 (λ j. getD (getD w i []) j 0))
 
--- the guarded sum t: max(s, 4). Source 000 guards the square by max(square, 1); four quarter steps are 1
+-- a sum, guarded: max(s, 4). Source 000 guards the square by max(square, 1); four quarter steps are 1
 abbrev pub guarded : ℕ → ℕ
 guarded s = max s 4
 
@@ -27,8 +27,8 @@ total ws = getD ws 0 0 + getD ws 1 0 + getD ws 2 0 + getD ws 3 0 + getD ws 4 0
 
 -- a direction, of five-sum A and direction sum s
 abbrev pub direction : (A : ℤ) (s : ℕ) → Direction
-direction A s = record { differences = A; gradients = s }
+direction A s = record { five = A; sum = s }
 
--- its guarded sum
-abbrev pub t : Direction → ℕ
-t d = guarded (d .gradients)
+-- document 01's t
+abbrev pub guardedSum : Direction → ℕ
+guardedSum d = guarded (d .sum)

@@ -7,15 +7,15 @@ use native.Mathlib.Omega.{arith}
 use lib.IntN.{ℤ, pos}
 use Rattle.whole.specs.Fraction.{Fraction, ratio, natural, _+ᶠ_, times, dividedBy, quotient, Above0, clampᶠ}
 use Rattle.gbtf.specs.declared.direction.Direction.{Direction}
-use Rattle.gbtf.specs.Direction.{t}
+use Rattle.gbtf.specs.Direction.{guardedSum}
 
 -- the sum of f/t²; of A/t²; of 1/t²
 unfoldable pub sumOver/t² : (f : Direction → ℤ) → List Direction → Fraction
 sumOver/t² f [] = natural 0
-sumOver/t² f (d ∷ l) = ratio (f d) (t d * t d) (mul-pos (omega arith) (omega arith)) +ᶠ sumOver/t² f l
+sumOver/t² f (d ∷ l) = ratio (f d) (guardedSum d * guardedSum d) (mul-pos (omega arith) (omega arith)) +ᶠ sumOver/t² f l
 
 abbrev pub sumOfA/t² : List Direction → Fraction
-sumOfA/t² l = sumOver/t² (λ d. d .differences) l
+sumOfA/t² l = sumOver/t² (λ d. d .five) l
 
 abbrev pub sumOf1/t² : List Direction → Fraction
 sumOf1/t² l = sumOver/t² (λ d. pos 1) l

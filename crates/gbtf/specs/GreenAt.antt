@@ -4,12 +4,12 @@ use mathlib.Core.Bool.{Bool, cond}
 use mathlib.Core.List.{List, [], _∷_}
 use lib.IntN.{ℤ, pos, _+ℤ_, _-ℤ_}
 use Rattle.whole.specs.Fraction.{Fraction, natural}
+use Rattle.bayer.specs.Mosaic.{Mosaic, isGreen}
 use Rattle.gbtf.specs.declared.direction.Direction.{Direction}
 use Rattle.gbtf.specs.Difference.{difference, gradient}
 use Rattle.gbtf.specs.Direction.{directionSum, fiveSum, total, direction}
 use Rattle.gbtf.specs.Fusion.{green}
 use Rattle.gbtf.specs.Exact.{exactGreen}
-use Rattle.bayer.specs.Mosaic.{Mosaic, isGreen}
 
 -- along a line of positions, of which some are green: the difference at position k
 abbrev pub differenceAlong : (green : ℤ → Bool) (x : ℤ → ℕ) → ℤ → ℤ

@@ -4,3 +4,5 @@ pub mod Fusion
 pub mod Exact
 pub mod GreenAt
 pub mod Weights
+pub mod Bounds
+pub mod Machine

@@ -2,7 +2,9 @@ ghost use mathlib.Core.Path.{_≡_};
 ghost use Prim.Native.Nat.{_+_, _≤_};
 ghost use lib.IntN.{natAbs};
 ghost use Rattle.whole.specs.Parts.{up, down};
-ghost use Rattle.gbtf.specs.Difference.{difference, gradient, Readings};
+ghost use Rattle.gbtf.specs.Bounds.{mostDifference};
+ghost use Rattle.gbtf.specs.Difference.{difference, gradient};
+ghost use Rattle.gbtf.specs.Machine.{Readings};
 
 // a - b, by its parts above and below zero.
 fn minus(a: u32, b: u32) -> i32
@@ -15,7 +17,7 @@ fn minus(a: u32, b: u32) -> i32
 // The directional difference, in quarter steps: centre c, neighbours l and r, second neighbours p and q.
 pub fn difference(green: bool, c: u16, l: u16, r: u16, p: u16, q: u16) -> i32
     ensures { λ d. ⌜ d ≡ difference green c l r p q ⌝ }
-    ensures { λ d. ⌜ (Readings c l r p q → natAbs d ≤ 16380) ⌝ }
+    ensures { λ d. ⌜ (Readings c l r p q → natAbs d ≤ mostDifference) ⌝ }
 {
     let near = 2 * (l as u32 + r as u32);
     let own = 2 * (c as u32) + p as u32 + q as u32;

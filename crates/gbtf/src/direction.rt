@@ -6,8 +6,8 @@ ghost use Rattle.gbtf.specs.Direction.{directionSum, guarded, fiveSum};
 
 // What green takes from one direction: its five-sum and its direction sum.
 pub struct Direction {
-    pub differences: i64,
-    pub gradients: u64,
+    pub five: i64,
+    pub sum: u64,
 }
 
 fn wide(x: u32) -> u64

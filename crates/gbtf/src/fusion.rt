@@ -3,8 +3,9 @@ ghost use mathlib.Core.List.{_∷_, []};
 ghost use Prim.Native.Nat.{_*_, _≤_, _<_, min};
 ghost use lib.IntN.{pos, natAbs, _+ℤ_, _*ℤ_};
 ghost use Rattle.whole.specs.Floor.{floorDiv};
-ghost use Rattle.gbtf.specs.Direction.{t};
-ghost use Rattle.gbtf.specs.Fusion.{smallest, share, fusion, green, Fitting};
+ghost use Rattle.gbtf.specs.Direction.{guardedSum};
+ghost use Rattle.gbtf.specs.Fusion.{smallestSum, share, fusion, green};
+ghost use Rattle.gbtf.specs.Machine.{Fitting};
 use crate::direction::Direction;
 use crate::direction::guard;
 
@@ -14,16 +15,13 @@ fn lesser(a: u64, b: u64) -> u64
     if a < b { a } else { b }
 }
 
-// The smallest of the four guarded sums.
-fn smallest(east: Direction, west: Direction, north: Direction, south: Direction) -> u64
-    ensures { λ m. ⌜ m ≡ smallest east (west ∷ north ∷ south ∷ []) ⌝ }
+// m: the smallest of the four guarded sums.
+fn smallest_sum(east: Direction, west: Direction, north: Direction, south: Direction) -> u64
+    ensures { λ m. ⌜ m ≡ smallestSum east (west ∷ north ∷ south ∷ []) ⌝ }
 {
     lesser(
-        guard(east.gradients),
-        lesser(
-            guard(west.gradients),
-            lesser(guard(north.gradients), guard(south.gradients)),
-        ),
+        guard(east.sum),
+        lesser(guard(west.sum), lesser(guard(north.sum), guard(south.sum))),
     )
 }
 
@@ -37,18 +35,18 @@ fn share(k: u64, m: u64, t: u64) -> u64
 
 // The share of a direction.
 fn share_of(k: u64, m: u64, d: Direction) -> u64
-    requires { ⌜ (0 < k) × (k ≤ 134217728) × (m ≤ t d) × (Fitting k d) ⌝ }
-    ensures { λ q. ⌜ (q ≡ share k m (t d)) × (q ≤ 134217728) ⌝ }
+    requires { ⌜ (0 < k) × (k ≤ 134217728) × (m ≤ guardedSum d) × (Fitting k d) ⌝ }
+    ensures { λ q. ⌜ (q ≡ share k m (guardedSum d)) × (q ≤ 134217728) ⌝ }
 {
-    share(k, m, guard(d.gradients))
+    share(k, m, guard(d.sum))
 }
 
 // A direction's five-sum by its share.
 fn shared(q: u64, d: Direction) -> i64
-    requires { ⌜ (q ≤ 134217728) × (natAbs (d .differences) ≤ 2097152) ⌝ }
-    ensures { λ r. ⌜ (r ≡ pos q *ℤ d .differences) × (natAbs r ≤ 2097152 * q) ⌝ }
+    requires { ⌜ (q ≤ 134217728) × (natAbs (d .five) ≤ 2097152) ⌝ }
+    ensures { λ r. ⌜ (r ≡ pos q *ℤ d .five) × (natAbs r ≤ 2097152 * q) ⌝ }
 {
-    q as i64 * d.differences
+    q as i64 * d.five
 }
 
 // 8n + h.
@@ -61,7 +59,7 @@ fn raised(n: i64, h: u64) -> i64
 
 // The floor of x / d, for a quotient within `lift`: x and as many divisors are a natural, and a quotient of naturals is rounded down.
 // A signed division would round towards zero.
-fn floor(x: i64, d: u64, lift: u64) -> i32
+fn floor_quotient(x: i64, d: u64, lift: u64) -> i32
     requires { ⌜ (0 < d) × (d ≤ 137438953472) × (lift ≤ 16777216) × (natAbs x ≤ lift * d) ⌝ }
     ensures { λ f. ⌜ f ≡ floorDiv x d ⌝ }
 {
@@ -77,7 +75,7 @@ fn fusion(n: i64, s: u64, total: u64) -> i32
     ensures { λ f. ⌜ f ≡ fusion n s total ⌝ }
 {
     let ts = total * s;
-    floor(raised(n, ts), 2 * ts, LIFT)
+    floor_quotient(raised(n, ts), 2 * ts, LIFT)
 }
 
 // Green in units at a red or blue pixel of reading c, at share scale k, with the weights' total.
@@ -94,7 +92,7 @@ pub fn green(
     requires { ⌜ (Fitting k east) × (Fitting k west) × (Fitting k north) × (Fitting k south) ⌝ }
     ensures { λ g. ⌜ g ≡ green k total c east (west ∷ north ∷ south ∷ []) ⌝ }
 {
-    let m = smallest(east, west, north, south);
+    let m = smallest_sum(east, west, north, south);
     let e = share_of(k, m, east);
     let w = share_of(k, m, west);
     let n = share_of(k, m, north);

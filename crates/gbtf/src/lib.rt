@@ -2,3 +2,4 @@
 pub mod difference;
 pub mod direction;
 pub mod fusion;
+pub mod weights;

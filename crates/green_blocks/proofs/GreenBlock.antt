@@ -8,26 +8,29 @@ use lib.Dec.{lit≤}
 use lib.IntN.{ℤ, pos, natAbs, subℕ}
 use lib.ListN.{length, getD, take, drop, length-append}
 use lib.Seq.{drop-append-add}
-use Rattle.bayer.specs.declared.frame.Frame.{Frame}
-use Rattle.bayer.specs.Mirror.{mirror}
 use Rattle.lists.specs.Part.{rowOf, part}
-use Rattle.gbtf.specs.Difference.{difference, gradient}
-use Rattle.gbtf.specs.Weights.{scale, evenWeights}
 use Rattle.lists.specs.Table.{table, joined}
-use Rattle.bayer.specs.Parity.{isOdd, startsGreen}
-use Rattle.green_rows.specs.Buffer.{differenceIn, gradientIn, greenIn}
 use Rattle.lists.specs.Bound.{AllAtMost, AllWithin}
-use Rattle.green_rule.specs.Greens.{greens, greenRow}
-use Rattle.green_blocks.specs.Block.{greenRowIn}
-use Rattle.green_rows.specs.Extended.{column, extendedRow, Lent}
 use Rattle.lists.proofs.TableLaws.{length-table, table-same, table-part}
 use Rattle.lists.proofs.JoinedLaws.{joined-same, joined-rows, part-within}
 use Rattle.lists.proofs.PartLaws.{part-length, first-part, other-part, getD-part, part-part}
 use Rattle.lists.proofs.BoundLaws.{all-part}
-use Rattle.green_rows.proofs.BoundLaws.{extended-at-most, differences-within, gradients-at-most}
+use Rattle.bayer.specs.declared.frame.Frame.{Frame}
+use Rattle.bayer.specs.Mirror.{mirror}
+use Rattle.bayer.specs.Mosaic.{continued}
+use Rattle.bayer.specs.Parity.{isOdd, startsGreen}
 use Rattle.bayer.proofs.ParityLaws.{odd-by, starts-below, starts-next}
+use Rattle.gbtf.specs.Bounds.{mostDifference, mostGradient}
+use Rattle.gbtf.specs.Difference.{difference, gradient}
+use Rattle.gbtf.specs.Direction.{total}
+use Rattle.gbtf.specs.GreenAt.{greenAt}
+use Rattle.green_rows.specs.AlongAxis.{differenceIn, gradientIn}
+use Rattle.green_rows.specs.GreenIn.{greenIn}
+use Rattle.green_rows.specs.Extended.{column, extendedRow, Lent}
+use Rattle.green_rows.proofs.BoundLaws.{extended-at-most, differences-within, gradients-at-most}
 use Rattle.green_rows.proofs.RowLaws.{odd-row}
-use Rattle.green_rows.proofs.GreenRow.{row-start, row-end, Given, fused}
+use Rattle.green_rows.proofs.GreenRow.{row-start, row-end, RowBuffers, fused}
+use Rattle.green_blocks.specs.Block.{greenRowIn}
 
 -- the same readings give the same difference, at place k of x and place j of y
 difference-same : (step o p : ℕ) (x y : List ℕ) (k j : ℕ) → isOdd (k + o) ≡ isOdd (j + p) → ((e : ℕ) → e ≤ 4 → getD x (k + e * step) 0 ≡ getD y (j + e * step) 0)
@@ -41,7 +44,7 @@ difference-same step o p x y k j green read = λ t. difference (green t) (read 2
     here = simp (zero-mul, add-zero) at (read 0 (lit≤ tt))
 
 -- ---- a block of b rows from row v on, of which column 0 is green or not by o: the readings x, the differences d and the gradients g
-pub record Block (f : Frame) (first : ℕ) (rows : List ℕ) (v b s o : ℕ) (x : List ℕ) (d : List ℤ) (g : List ℕ) : Type 0 where
+pub record BlockBuffers (f : Frame) (first : ℕ) (rows : List ℕ) (v b s o : ℕ) (x : List ℕ) (d : List ℤ) (g : List ℕ) : Type 0 where
   pub lent : (i : ℕ) → i < b → Lent f first (length rows) (v + i)
   pub some : 0 < b
   pub few : b ≤ 4
@@ -50,11 +53,11 @@ pub record Block (f : Frame) (first : ℕ) (rows : List ℕ) (v b s o : ℕ) (x 
   pub wide : f .width + 14 ≤ s
   pub narrow : s ≤ f .width + 15
   pub starts : o ≡ startsGreen (f .layout) v
-  pub readings : x ≡ joined (extendedRow f first rows v s) (b + 12)
-  pub differences : d ≡ table (differenceIn 1 o (part (5 * s - 2) (b * s + 2 * s + 4) x)) (b * s + 2 * s) ++ table (differenceIn s (1 - o) x) (b * s + 8 * s)
-  pub gradients : g ≡ table (gradientIn 1 (part 0 (b * s + 2 * s) d)) (b * s + 2 * s - 2) ++ table (gradientIn s (part (b * s + 3 * s) (b * s + 6 * s) d)) (b * s + 4 * s)
+  pub x-is : x ≡ joined (extendedRow f first rows v s) (b + 12)
+  pub d-is : d ≡ table (differenceIn 1 o (part (5 * s - 2) (b * s + 2 * s + 4) x)) (b * s + 2 * s) ++ table (differenceIn s (1 - o) x) (b * s + 8 * s)
+  pub g-is : g ≡ table (gradientIn 1 (part 0 (b * s + 2 * s) d)) (b * s + 2 * s - 2) ++ table (gradientIn s (part (b * s + 3 * s) (b * s + 6 * s) d)) (b * s + 4 * s)
 
-module _ {f : Frame} {first : ℕ} {rows : List ℕ} {v b s o : ℕ} {x : List ℕ} {d : List ℤ} {g : List ℕ} (z : Block f first rows v b s o x d g) where
+module _ {f : Frame} {first : ℕ} {rows : List ℕ} {v b s o : ℕ} {x : List ℕ} {d : List ℤ} {g : List ℕ} (z : BlockBuffers f first rows v b s o x d g) where
   abbrev m : ℕ
   m = b * s
 
@@ -74,30 +77,30 @@ module _ {f : Frame} {first : ℕ} {rows : List ℕ} {v b s o : ℕ} {x : List �
   gv = table (gradientIn s (part s (m + 6 * s) dv)) (m + 4 * s)
 
   -- ---- the parts that `fuse_rows` is handed are these
-  along : take (m + 2 * s - 0) d ≡ dh
-  along = first-part (m + 2 * s) (m + 2 * s - 0) dh dv (z .differences) (length-table _ _) (omega arith)
+  dh-part : take (m + 2 * s - 0) d ≡ dh
+  dh-part = first-part (m + 2 * s) (m + 2 * s - 0) dh dv (z .d-is) (length-table _ _) (omega arith)
 
-  down : take (length d - (m + 2 * s)) (drop (m + 2 * s) d) ≡ dv
-  down = other-part (m + 2 * s) dh dv (z .differences) (length-table _ _)
+  dv-part : take (length d - (m + 2 * s)) (drop (m + 2 * s) d) ≡ dv
+  dv-part = other-part (m + 2 * s) dh dv (z .d-is) (length-table _ _)
 
-  inner : part (m + 3 * s) (m + 6 * s) (dh ++ dv) ≡ part s (m + 6 * s) dv
-  inner =
+  dv-inner : part (m + 3 * s) (m + 6 * s) (dh ++ dv) ≡ part s (m + 6 * s) dv
+  dv-inner =
       let e : m + 3 * s ≡ length dh + s = rw (length-table (differenceIn 1 o hx) (m + 2 * s)) (omega arith) in
       ap (take (m + 6 * s)) (ap (λ n. drop n (dh ++ dv)) e ∙ drop-append-add dh dv s)
 
   two-gradients : g ≡ gh ++ gv
   two-gradients =
-      z .gradients
-      ∙ ap₂ (λ a c. table (gradientIn 1 a) (m + 2 * s - 2) ++ table (gradientIn s c) (m + 4 * s)) (first-part (m + 2 * s) (m + 2 * s) dh dv (z .differences) (length-table _ _) refl) (ap (part (m + 3 * s) (m + 6 * s)) (z .differences) ∙ inner)
+      z .g-is
+      ∙ ap₂ (λ a c. table (gradientIn 1 a) (m + 2 * s - 2) ++ table (gradientIn s c) (m + 4 * s)) (first-part (m + 2 * s) (m + 2 * s) dh dv (z .d-is) (length-table _ _) refl) (ap (part (m + 3 * s) (m + 6 * s)) (z .d-is) ∙ dv-inner)
 
   pub gradients-length : length g ≡ m + 2 * s - 2 + (m + 4 * s)
   gradients-length = ap length two-gradients ∙ length-append gh gv ∙ ap₂ (λ (a c : ℕ). a + c) (length-table _ _) (length-table _ _)
 
-  across : take (m + 2 * s - 2 - 0) g ≡ gh
-  across = first-part (m + 2 * s - 2) (m + 2 * s - 2 - 0) gh gv two-gradients (length-table _ _) (omega arith)
+  gh-part : take (m + 2 * s - 2 - 0) g ≡ gh
+  gh-part = first-part (m + 2 * s - 2) (m + 2 * s - 2 - 0) gh gv two-gradients (length-table _ _) (omega arith)
 
-  steep : take (length g - (m + 2 * s - 2)) (drop (m + 2 * s - 2) g) ≡ gv
-  steep = other-part (m + 2 * s - 2) gh gv two-gradients (length-table _ _)
+  gv-part : take (length g - (m + 2 * s - 2)) (drop (m + 2 * s - 2) g) ≡ gv
+  gv-part = other-part (m + 2 * s - 2) gh gv two-gradients (length-table _ _)
 
   -- ---- row i
   module _ (i : ℕ) (hi : i < b) where
@@ -117,13 +120,14 @@ module _ {f : Frame} {first : ℕ} {rows : List ℕ} {v b s o : ℕ} {x : List �
     x′-at k h = getD-part (i * s) (13 * s) x k 0 h
 
     -- the place of difference e from place j on
-    along-at : (j e : ℕ) → j < 3 * s → e ≤ 4 → getD hx (i * s + j + e * 1) 0 ≡ getD (part (5 * s - 2) (3 * s + 4) x′) (j + e * 1) 0
-    along-at j e h l =
+    hx-at : (j e : ℕ) → j < 3 * s → e ≤ 4 → getD hx (i * s + j + e * 1) 0 ≡ getD (part (5 * s - 2) (3 * s + 4) x′) (j + e * 1) 0
+    hx-at j e h l =
         let a : 5 * s - 2 + (i * s + j + e * 1) ≡ i * s + (5 * s - 2 + (j + e * 1)) = omega (arith, z .wide) in
-        getD-part (5 * s - 2) (m + 2 * s + 4) x (i * s + j + e * 1) 0 (omega (arith, below)) ∙ ap (λ n. getD x n 0) a ∙ sym (getD-part (5 * s - 2) (3 * s + 4) x′ (j + e * 1) 0 (omega arith) ∙ x′-at (5 * s - 2 + (j + e * 1)) (omega (arith, z .wide)))
+        getD-part (5 * s - 2) (m + 2 * s + 4) x (i * s + j + e * 1) 0 (omega (arith, below)) ∙ ap (λ n. getD x n 0) a
+        ∙ sym (getD-part (5 * s - 2) (3 * s + 4) x′ (j + e * 1) 0 (omega arith) ∙ x′-at (5 * s - 2 + (j + e * 1)) (omega (arith, z .wide)))
 
-    down-at : (j e : ℕ) → j < 9 * s → e ≤ 4 → getD x (i * s + j + e * s) 0 ≡ getD x′ (j + e * s) 0
-    down-at j e h l =
+    x-at : (j e : ℕ) → j < 9 * s → e ≤ 4 → getD x (i * s + j + e * s) 0 ≡ getD x′ (j + e * s) 0
+    x-at j e h l =
         let a : i * s + j + e * s ≡ i * s + (j + e * s) = omega arith in
         ap (λ n. getD x n 0) a ∙ sym (x′-at (j + e * s) (omega (arith, mul-le-mul-right s l)))
 
@@ -137,39 +141,35 @@ module _ {f : Frame} {first : ℕ} {rows : List ℕ} {v b s o : ℕ} {x : List �
         getD-part s (m + 6 * s) dv n (pos 0) (omega (arith, below)) ∙ ap (λ n. getD dv n (pos 0)) a
         ∙ sym (getD-part s (7 * s) (part (i * s) (9 * s) dv) k (pos 0) h ∙ getD-part (i * s) (9 * s) dv (s + k) (pos 0) (omega arith))
 
-    parity : (j : ℕ) → isOdd (i * s + j + o) ≡ isOdd (j + o′)
-    parity j = odd-by (i * s + j + o) (j + o′) (sum i j o (i * s) (odd-row i s (z .odd)))
+    parity-dh : (j : ℕ) → isOdd (i * s + j + o) ≡ isOdd (j + o′)
+    parity-dh j = odd-by (i * s + j + o) (j + o′) (sum i j o (i * s) (odd-row i s (z .odd)))
       where
         sum : (i j o n : ℕ) → n % 2 ≡ i % 2 → (n + j + o) % 2 ≡ (j + (o + i) % 2) % 2
         sum i j o n e = omega arith
 
-    parity-down : (j : ℕ) → isOdd (i * s + j + (1 - o)) ≡ isOdd (j + (1 - o′))
-    parity-down j = odd-by (i * s + j + (1 - o)) (j + (1 - o′)) (sum i j o (i * s) o-bit (odd-row i s (z .odd)))
+    parity-dv : (j : ℕ) → isOdd (i * s + j + (1 - o)) ≡ isOdd (j + (1 - o′))
+    parity-dv j = odd-by (i * s + j + (1 - o)) (j + (1 - o′)) (sum i j o (i * s) o-bit (odd-row i s (z .odd)))
       where
         sum : (i j o n : ℕ) → o ≤ 1 → n % 2 ≡ i % 2 → (n + j + (1 - o)) % 2 ≡ (j + (1 - (o + i) % 2)) % 2
         sum i j o n h e = omega arith
 
-    given : Given f first rows (v + i) s o′ x′ (part (i * s) (3 * s) dh) (part (i * s) (9 * s) dv) (part (i * s) (3 * s - 2) gh) (part (i * s) (5 * s) gv)
-    given = record {
-      lent = z .lent i hi;
-      known = z .known;
-      odd = z .odd;
-      wide = z .wide;
-      narrow = z .narrow;
+    buffers : RowBuffers f first rows (v + i) s o′ x′ (part (i * s) (3 * s) dh) (part (i * s) (9 * s) dv) (part (i * s) (3 * s - 2) gh) (part (i * s) (5 * s) gv)
+    buffers = record {
+      places = record { lent = z .lent i hi; known = z .known; wide = z .wide; narrow = z .narrow; odd = z .odd };
       starts = ap (λ n. (n + i) % 2) (z .starts) ∙ sym (starts-next (f .layout) v i (z .known));
-      readings =
-          ap (part (i * s) (13 * s)) (z .readings) ∙ joined-rows (extendedRow f first rows v s) s (λ r. length-table _ s) (b + 12) i 13 (omega arith)
+      x-is =
+          ap (part (i * s) (13 * s)) (z .x-is) ∙ joined-rows (extendedRow f first rows v s) s (λ r. length-table _ s) (b + 12) i 13 (omega arith)
           ∙ joined-same _ _ 13 (λ r _. (let a : v + (i + r) ≡ v + i + r = omega arith in ap (λ n. table (column (rowOf (f .width) (mirror (f .height) (subℕ n 6) - first) rows)) s) a));
-      along =
+      dh-is =
           table-part (differenceIn 1 o hx) (m + 2 * s) (i * s) (3 * s) (omega (arith, below))
-          ∙ table-same _ _ (3 * s) (λ j h. difference-same 1 o o′ hx (part (5 * s - 2) (3 * s + 4) x′) (i * s + j) j (parity j) (λ e l. along-at j e h l));
-      down =
+          ∙ table-same _ _ (3 * s) (λ j h. difference-same 1 o o′ hx (part (5 * s - 2) (3 * s + 4) x′) (i * s + j) j (parity-dh j) (λ e l. hx-at j e h l));
+      dv-is =
           table-part (differenceIn s (1 - o) x) (m + 8 * s) (i * s) (9 * s) (omega (arith, below))
-          ∙ table-same _ _ (9 * s) (λ j h. difference-same s (1 - o) (1 - o′) x x′ (i * s + j) j (parity-down j) (λ e l. down-at j e h l));
-      across =
+          ∙ table-same _ _ (9 * s) (λ j h. difference-same s (1 - o) (1 - o′) x x′ (i * s + j) j (parity-dv j) (λ e l. x-at j e h l));
+      gh-is =
           table-part (gradientIn 1 dh) (m + 2 * s - 2) (i * s) (3 * s - 2) (omega (arith, below, z .wide))
           ∙ table-same _ _ (3 * s - 2) (λ j h. ap₂ gradient (dh-at (i * s + j) j refl (omega arith)) (dh-at (i * s + j + 2 * 1) (j + 2 * 1) (omega arith) (omega arith)));
-      steep =
+      gv-is =
           table-part (gradientIn s (part s (m + 6 * s) dv)) (m + 4 * s) (i * s) (5 * s) (omega (arith, below))
           ∙ table-same _ _ (5 * s) (λ j h. ap₂ gradient (dv-at (i * s + j) j refl (omega arith)) (dv-at (i * s + j + 2 * s) (j + 2 * s) (omega arith) (omega arith)));
     }
@@ -196,41 +196,54 @@ module _ {f : Frame} {first : ℕ} {rows : List ℕ} {v b s o : ℕ} {x : List �
       let a : v + i - first ≡ v - first + i = omega (arith, block-start) in
       rw (add-sub-cancel-left at (b * f .width), a, add-mul) (part-part (i * f .width) (f .width) at (b * f .width) rows (part-within (f .width) h))
 
-  pub block-fused : {out : List ℕ}
-      → out ≡ joined (greenRowIn scale evenWeights (f .width) s o own (take (m + 2 * s - 0) d) (take (length d - (m + 2 * s)) (drop (m + 2 * s) d)) (take (m + 2 * s - 2 - 0) g) (take (length g - (m + 2 * s - 2)) (drop (m + 2 * s - 2) g))) b
-      → out ≡ joined (λ i. greenRow f first rows (v + i)) b
-  unfolding greens
-  block-fused h =
-      h ∙ rw (along, down, across, steep) (joined-same _ _ b (λ i k. ap (λ l. table (greenIn scale evenWeights s ((o + i) % 2) l (part (i * s) (3 * s) dh) (part (i * s) (9 * s) dv) (part (i * s) (3 * s - 2) gh) (part (i * s) (5 * s) gv)) (f .width)) (own-row i k) ∙ fused (given i k)))
+  pub block-fused : (K : ℕ) (ws : List ℕ) {out : List ℕ}
+      → out ≡ joined (greenRowIn K ws (f .width) s o own (take (m + 2 * s - 0) d) (take (length d - (m + 2 * s)) (drop (m + 2 * s) d)) (take (m + 2 * s - 2 - 0) g) (take (length g - (m + 2 * s - 2)) (drop (m + 2 * s - 2) g))) b
+      → out ≡ joined (λ i. table (λ j. greenAt ws (continued f first rows) (pos (v + i)) (pos j) K) (f .width)) b
+  block-fused K ws h =
+      h
+      ∙ rw (dh-part, dv-part, gh-part, gv-part)
+      (joined-same _ _ b
+      (λ i k. ap (λ l. table (greenIn K ws s ((o + i) % 2) l (part (i * s) (3 * s) dh) (part (i * s) (9 * s) dv) (part (i * s) (3 * s - 2) gh) (part (i * s) (5 * s) gv)) (f .width)) (own-row i k)
+      ∙ fused (buffers i k) K ws))
 
   -- ---- what `fuse_rows` requires
   module _ (small : AllAtMost 4095 rows) where
     x-small : AllAtMost 4095 x
-    x-small = rw (z .readings) (extended-at-most f first rows v s (b + 12) small)
+    x-small = rw (z .x-is) (extended-at-most f first rows v s (b + 12) small)
 
     part-small : (a k : ℕ) (l : List ℕ) → AllAtMost 4095 l → AllAtMost 4095 (part a k l)
     part-small a k l h = all-part (λ n. n ≤ 4095) 0 (omega arith) a k l h
 
-    along-within : AllWithin 16380 dh
-    along-within = differences-within 1 o hx (m + 2 * s) (part-small (5 * s - 2) (m + 2 * s + 4) x x-small)
+    dh-within : AllWithin mostDifference dh
+    dh-within = differences-within 1 o hx (m + 2 * s) (part-small (5 * s - 2) (m + 2 * s + 4) x x-small)
 
-    down-within : AllWithin 16380 dv
-    down-within = differences-within s (1 - o) x (m + 8 * s) x-small
+    dv-within : AllWithin mostDifference dv
+    dv-within = differences-within s (1 - o) x (m + 8 * s) x-small
 
-    inner-within : AllWithin 16380 (part s (m + 6 * s) dv)
-    inner-within = all-part (λ a. natAbs a ≤ 16380) (pos 0) (omega arith) s (m + 6 * s) dv down-within
+    dv-inner-within : AllWithin mostDifference (part s (m + 6 * s) dv)
+    dv-inner-within = all-part (λ a. natAbs a ≤ mostDifference) (pos 0) (omega arith) s (m + 6 * s) dv dv-within
 
-    pub ready : (out sums : List ℕ) (fives : List ℤ) → length out ≡ b * f .width → length sums ≡ 4 * f .width → length fives ≡ 4 * f .width
-        → ((o < 2) × (AllAtMost 4095 own) × (length own ≡ b * f .width) × (length out ≡ b * f .width) × (f .width + 14 ≤ s) × (s ≤ 4111) × (b ≤ 4))
+    pub ready : (ws : List ℕ) → 0 < total ws → total ws ≤ 128 → (out sums : List ℕ) (fives : List ℤ) → length out ≡ b * f .width → length sums ≡ 4 * f .width → length fives ≡ 4 * f .width
+        → ((o < 2) × (AllAtMost 4095 own) × (length own ≡ b * f .width) × (length out ≡ b * f .width) × (f .width + 14 ≤ s) × (s ≤ 4111) × (b ≤ 4) × (0 < total ws) × (total ws ≤ 128))
         × (((length (take (m + 2 * s - 0) d) ≡ m + 2 * s) × (length (take (length d - (m + 2 * s)) (drop (m + 2 * s) d)) ≡ m + 8 * s) × (length (take (m + 2 * s - 2 - 0) g) ≡ m + 2 * s - 2)
         × (length (take (length g - (m + 2 * s - 2)) (drop (m + 2 * s - 2) g)) ≡ m + 4 * s) × (length sums ≡ 4 * f .width) × (length fives ≡ 4 * f .width))
-        × ((AllWithin 16380 (take (m + 2 * s - 0) d)) × (AllWithin 16380 (take (length d - (m + 2 * s)) (drop (m + 2 * s) d))) × (AllAtMost 32760 (take (m + 2 * s - 2 - 0) g))
-        × (AllAtMost 32760 (take (length g - (m + 2 * s - 2)) (drop (m + 2 * s - 2) g)))))
-    ready out sums fives e e₁ e₂ =
-        rw (along, down, across, steep) (
-          (omega (arith, z .starts, starts-below (f .layout) v), part-small at (at + b * f .width - at) rows small, part-length at (b * f .width) rows block-end, e, z .wide, omega (arith, z .narrow, z .lent 0 (z .some) .narrow), z .few),
+        × ((AllWithin mostDifference (take (m + 2 * s - 0) d)) × (AllWithin mostDifference (take (length d - (m + 2 * s)) (drop (m + 2 * s) d))) × (AllAtMost mostGradient (take (m + 2 * s - 2 - 0) g))
+        × (AllAtMost mostGradient (take (length g - (m + 2 * s - 2)) (drop (m + 2 * s - 2) g)))))
+    ready ws h k out sums fives e e₁ e₂ =
+        rw (dh-part, dv-part, gh-part, gv-part) (
+          (
+            omega (arith, z .starts, starts-below (f .layout) v),
+            part-small at (at + b * f .width - at) rows small,
+            part-length at (b * f .width) rows block-end,
+            e,
+            z .wide,
+            omega (arith, z .narrow, z .lent 0 (z .some) .narrow),
+            z .few,
+            h,
+            k,
+          ),
           (
             (length-table _ _, length-table _ _, length-table _ _, length-table _ _, e₁, e₂),
-            (along-within, down-within, gradients-at-most 1 dh (m + 2 * s - 2) along-within, gradients-at-most s (part s (m + 6 * s) dv) (m + 4 * s) inner-within),
+            (dh-within, dv-within, gradients-at-most 1 dh (m + 2 * s - 2) dh-within, gradients-at-most s (part s (m + 6 * s) dv) (m + 4 * s) dv-inner-within),
           ),
         )

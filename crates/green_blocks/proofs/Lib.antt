@@ -1,3 +1,3 @@
-pub mod LentLaws
+pub mod BlockLent
 pub mod GreenBlock
 pub mod RoomLaws

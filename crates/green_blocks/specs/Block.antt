@@ -4,9 +4,34 @@ use mathlib.Core.List.{List}
 use lib.IntN.{ℤ}
 use Rattle.lists.specs.Part.{rowOf, part}
 use Rattle.lists.specs.Table.{table}
-use Rattle.green_rows.specs.Buffer.{greenIn}
+use Rattle.green_rows.specs.GreenIn.{greenIn}
 
--- row i of a block: x holds its rows of readings, w wide, and each other buffer what green of its first row is worked out from, and then what the next rows add
-abbrev pub greenRowIn : (K : ℕ) (ws : List ℕ) (w s odd : ℕ) (x : List ℕ) (dh dv : List ℤ) (gh gv : List ℕ) (i : ℕ) → List ℕ
-greenRowIn K ws w s odd x dh dv gh gv i =
-    table (greenIn K ws s ((odd + i) % 2) (rowOf w i x) (part (i * s) (3 * s) dh) (part (i * s) (9 * s) dv) (part (i * s) (3 * s - 2) gh) (part (i * s) (5 * s) gv)) w
+-- A block of b rows, from row v of the frame on. Each buffer is rows of s places; s is the width w + 14 or w + 15, and odd. Which row of a buffer is which of the frame:
+--
+--     frame             x       dv      gv      dh, gh
+--     v − 6             0
+--     v − 5             1
+--     v − 4             2       0
+--     v − 3             3       1
+--     v − 2             4       2       0
+--     v − 1             5       3       1       0
+--     v                 6       4       2       1          first row of the block
+--     v + b − 1         b + 5   b + 3   b + 1   b          its last row
+--     v + b             b + 6   b + 4   b + 2   b + 1
+--     v + b + 1         b + 7   b + 5   b + 3
+--     v + b + 3         b + 9   b + 7
+--     v + b + 5         b + 11
+--     rows in all       b + 12  b + 8   b + 4   b + 2
+--
+--     place             0 .. 6          7 .. w + 6        w + 7 .. s − 1
+--     in x, dv, gv, dh  columns −7 ..   columns 0 .. w−1  columns w ..       gh starts one place later: its place p is column p − 6
+--
+-- x: readings. dh, dv: differences along rows and columns; d holds first dh, then dv. gh, gv: their gradients; g holds first gh, then gv.
+-- dh is worked out from x's place 5 s − 2 on, two places before row v − 1, so that its places stand under x's; gh from dh's own start, so that it starts later, and is two places short.
+-- The first two and last two places of a row of dh, and the first two and last four of gh, reach into the row beside; none of these is read.
+-- Row i of the block is handed what lies from place i s on: 3 rows of dh and gh, 9 of dv, 5 of gv. In these the row itself is row 1, 4 and 2, as in green_rows/specs/Directions.
+
+-- green of row i of a block, whose own readings are rows of w
+abbrev pub greenRowIn : (K : ℕ) (ws : List ℕ) (w s odd : ℕ) (own : List ℕ) (dh dv : List ℤ) (gh gv : List ℕ) (i : ℕ) → List ℕ
+greenRowIn K ws w s odd own dh dv gh gv i =
+    table (greenIn K ws s ((odd + i) % 2) (rowOf w i own) (part (i * s) (3 * s) dh) (part (i * s) (9 * s) dv) (part (i * s) (3 * s - 2) gh) (part (i * s) (5 * s) gv)) w

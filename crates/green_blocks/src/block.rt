@@ -3,19 +3,21 @@
 ghost use mathlib.Core.Path.{_≡_};
 ghost use mathlib.Core.List.{_++_};
 ghost use Prim.Native.Nat.{ℕ, _+_, _*_, _-_, _%_, _≤_, _<_};
-ghost use lib.IntN.{pos};
 ghost use lib.ListN.{length};
-ghost use Rattle.gbtf.specs.Weights.{scale, evenWeights};
 ghost use Rattle.lists.specs.Table.{table, joined};
 ghost use Rattle.lists.specs.Part.{part};
-ghost use Rattle.green_rows.specs.Buffer.{differenceIn, gradientIn};
 ghost use Rattle.lists.specs.Bound.{AllAtMost, AllWithin};
+ghost use Rattle.gbtf.specs.Bounds.{mostDifference, mostGradient};
+ghost use Rattle.gbtf.specs.Direction.{total};
+ghost use Rattle.gbtf.specs.Weights.{scale};
+ghost use Rattle.green_rule.specs.Greens.{greenRow};
+ghost use Rattle.green_rows.specs.AlongAxis.{differenceIn, gradientIn};
 ghost use Rattle.green_rows.specs.Extended.{Lent};
 ghost use Rattle.green_blocks.specs.Block.{greenRowIn};
-ghost use Rattle.green_rule.specs.Greens.{greenRow};
 use crate::fetch::fetch;
 use bayer::frame::Frame;
 use bayer::parity::starts_green;
+use gbtf::weights::WEIGHTS;
 use green_rows::along::differences;
 use green_rows::along::gradients;
 use green_rows::fuse::fuse;
@@ -47,6 +49,7 @@ fn all_gradients(d: &[i32], s: usize, m: usize, g: &mut [u32])
 
 // Green of b rows of readings x, from the differences and gradients of a block.
 fn fuse_rows(
+    weights: [u8; 5],
     x: &[u16],
     w: usize,
     b: usize,
@@ -60,10 +63,10 @@ fn fuse_rows(
     f: &mut [i32],
     out: &mut [u16],
 )
-    requires { ⌜ (odd < 2) × (AllAtMost 4095 (now x)) × (length (now x) ≡ b * w) × (length (now out) ≡ b * w) × (w + 14 ≤ s) × (s ≤ 4111) × (b ≤ 4) ⌝ }
+    requires { ⌜ (odd < 2) × (AllAtMost 4095 (now x)) × (length (now x) ≡ b * w) × (length (now out) ≡ b * w) × (w + 14 ≤ s) × (s ≤ 4111) × (b ≤ 4) × (0 < total weights) × (total weights ≤ 128) ⌝ }
     requires { ⌜ (length (now dh) ≡ b * s + 2 * s) × (length (now dv) ≡ b * s + 8 * s) × (length (now gh) ≡ b * s + 2 * s - 2) × (length (now gv) ≡ b * s + 4 * s) × (length (now t) ≡ 4 * w) × (length (now f) ≡ 4 * w) ⌝ }
-    requires { ⌜ (AllWithin 16380 (now dh)) × (AllWithin 16380 (now dv)) × (AllAtMost 32760 (now gh)) × (AllAtMost 32760 (now gv)) ⌝ }
-    ensures { λ _. ⌜ now (out .exit) ≡ joined (greenRowIn scale evenWeights w s odd (now (x .entry)) (now (dh .entry)) (now (dv .entry)) (now (gh .entry)) (now (gv .entry))) b ⌝ }
+    requires { ⌜ (AllWithin mostDifference (now dh)) × (AllWithin mostDifference (now dv)) × (AllAtMost mostGradient (now gh)) × (AllAtMost mostGradient (now gv)) ⌝ }
+    ensures { λ _. ⌜ now (out .exit) ≡ joined (greenRowIn scale weights w s odd (now (x .entry)) (now (dh .entry)) (now (dv .entry)) (now (gh .entry)) (now (gv .entry))) b ⌝ }
 {
     let mut i = 0;
     while i < b {
@@ -75,6 +78,7 @@ fn fuse_rows(
         let gh_end = o + (3 * s - 2);
         let gv_end = o + 5 * s;
         fuse(
+            weights,
             &x[at..end],
             s,
             (odd + i) % 2,
@@ -106,8 +110,8 @@ pub fn green_block(
     out: &mut [u16],
 )
     requires { ⌜ ((i : ℕ) → i < b → Lent frame start (length (now piece)) (v + i)) × (0 < b) × (b ≤ 4) × (frame .layout ≤ 3) × (AllAtMost 4095 (now piece)) ⌝ }
-    requires { ⌜ (s % 2 ≡ 1) × (frame .width + 14 ≤ s) × (s ≤ frame .width + 15) ⌝ }
-    requires { ⌜ (length (now x) ≡ b * s + 12 * s) × (length (now d) ≡ b * s + 2 * s + (b * s + 8 * s)) × (length (now g) ≡ b * s + 2 * s - 2 + (b * s + 4 * s)) × (length (now t) ≡ 4 * frame .width) × (length (now f) ≡ 4 * frame .width) × (length (now out) ≡ b * frame .width) ⌝ }
+    requires { ⌜ (s % 2 ≡ 1) × (frame .width + 14 ≤ s) × (s ≤ frame .width + 15) × (length (now t) ≡ 4 * frame .width) × (length (now f) ≡ 4 * frame .width) × (length (now out) ≡ b * frame .width) ⌝ }
+    requires { ⌜ (length (now x) ≡ b * s + 12 * s) × (length (now d) ≡ b * s + 2 * s + (b * s + 8 * s)) × (length (now g) ≡ b * s + 2 * s - 2 + (b * s + 4 * s)) ⌝ }
     ensures { λ _. ⌜ now (out .exit) ≡ joined (λ i. greenRow frame start (now (piece .entry)) (v + i)) b ⌝ }
 {
     let w = frame.width;
@@ -121,6 +125,7 @@ pub fn green_block(
     let dh_len = m + 2 * s;
     let gh_len = dh_len - 2;
     fuse_rows(
+        WEIGHTS,
         &piece[at..end],
         w,
         b,

@@ -8,18 +8,19 @@ use lib.Dec.{lit≤}
 use lib.IntN.{ℤ, pos, natAbs, _*ℤ_}
 use lib.ListN.{length, getD}
 use Rattle.whole.proofs.Pairs.{anyₚ, _+ₚ_, eq-by}
-use Rattle.gbtf.specs.Direction.{direction, directionSum, fiveSum, total}
-use Rattle.gbtf.specs.Fusion.{green}
-use Rattle.gbtf.specs.Weights.{scale, evenWeights}
-use Rattle.gbtf.proofs.PixelLaws.{five-sum-within, five-sum-same}
 use Rattle.lists.specs.Table.{table, joined}
-use Rattle.green_rows.specs.Directions.{windowIn, after, before, reversed, sumIn, fiveIn, directionIn, directionFrom}
-use Rattle.bayer.specs.Parity.{isOdd}
-use Rattle.green_rows.specs.Buffer.{fusedBy, greenFrom, greenIn}
 use Rattle.lists.specs.Bound.{AllAtMost, AllWithin}
 use Rattle.lists.proofs.TableLaws.{table-same, table-all}
 use Rattle.lists.proofs.JoinedLaws.{parts, getD-parts}
 use Rattle.lists.proofs.BoundLaws.{all-joined}
+use Rattle.bayer.specs.Parity.{isOdd}
+use Rattle.gbtf.specs.Bounds.{mostDifference, mostGradient, mostSum}
+use Rattle.gbtf.specs.Direction.{direction, directionSum, fiveSum, total}
+use Rattle.gbtf.specs.Fusion.{green}
+use Rattle.gbtf.proofs.PixelBounds.{five-sum-within}
+use Rattle.gbtf.proofs.GreenLocal.{five-sum-same}
+use Rattle.green_rows.specs.Directions.{windowIn, after, before, reversed, sumIn, fiveIn, directionIn, directionFrom}
+use Rattle.green_rows.specs.GreenIn.{fusedBy, greenFrom, greenIn}
 use Rattle.green_rows.proofs.BoundLaws.{window-at-most}
 
 -- ---- one place
@@ -46,36 +47,43 @@ module _ (s w : ℕ) (gh gv : List ℕ) where
   abbrev sums : List ℕ
   sums = joined (parts (sumIn s gh gv) w) 4
 
-  pub sums-at-most : AllAtMost 32760 gh → AllAtMost 32760 gv → AllAtMost 294840 sums
-  sums-at-most a b = all-joined (λ n. n ≤ 294840) 0 (omega arith) (parts (sumIn s gh gv) w) 4 (λ k. table-all (λ n. n ≤ 294840) (sumIn s gh gv k) w (omega arith) (λ j _. at-most k j))
+  pub sums-at-most : AllAtMost mostGradient gh → AllAtMost mostGradient gv → AllAtMost mostSum sums
+  sums-at-most a b = all-joined (λ n. n ≤ mostSum) 0 (omega arith) (parts (sumIn s gh gv) w) 4 (λ k. table-all (λ n. n ≤ mostSum) (sumIn s gh gv k) w (omega arith) (λ j _. at-most k j))
     where
-      at-most : (k j : ℕ) → sumIn s gh gv k j ≤ 294840
+      at-most : (k j : ℕ) → sumIn s gh gv k j ≤ mostSum
       at-most zero j = window-at-most gh s _ a
       at-most (suc zero) j = window-at-most gh s _ a
       at-most (suc (suc zero)) j = window-at-most gv s _ b
       at-most (suc (suc (suc k))) j = window-at-most gv s _ b
 
-module _ (s w : ℕ) (dh dv : List ℤ) where
+module _ (ws : List ℕ) (s w : ℕ) (dh dv : List ℤ) where
   abbrev fives : List ℤ
-  fives = joined (parts (fiveIn evenWeights s dh dv) w) 4
+  fives = joined (parts (fiveIn ws s dh dv) w) 4
 
-  pub fives-within : AllWithin 16380 dh → AllWithin 16380 dv → AllWithin 81900 fives
-  fives-within a b = all-joined (λ z. natAbs z ≤ 81900) (pos 0) (omega arith) (parts (fiveIn evenWeights s dh dv) w) 4 (λ k. table-all (λ z. natAbs z ≤ 81900) (fiveIn evenWeights s dh dv k) w (omega arith) (λ j _. within k j))
+  fives-within : AllWithin mostDifference dh → AllWithin mostDifference dv → AllWithin (total ws * mostDifference) fives
+  fives-within a b =
+      all-joined (λ z. natAbs z ≤ total ws * mostDifference) (pos 0) (omega arith) (parts (fiveIn ws s dh dv) w) 4
+      (λ k. table-all (λ z. natAbs z ≤ total ws * mostDifference) (fiveIn ws s dh dv k) w (omega arith) (λ j _. within k j))
     where
-      within : (k j : ℕ) → natAbs (fiveIn evenWeights s dh dv k j) ≤ 81900
-      within zero j = five-sum-within evenWeights (after 1 dh (s + (j + 7))) (λ i. a _)
-      within (suc zero) j = five-sum-within evenWeights (before 1 dh (s + (j + 7))) (λ i. a _)
-      within (suc (suc zero)) j = five-sum-within evenWeights (before s dv (4 * s + (j + 7))) (λ i. b _)
-      within (suc (suc (suc k))) j = five-sum-within evenWeights (after s dv (4 * s + (j + 7))) (λ i. b _)
+      within : (k j : ℕ) → natAbs (fiveIn ws s dh dv k j) ≤ total ws * mostDifference
+      within zero j = five-sum-within ws (after 1 dh (s + (j + 7))) (λ i. a _)
+      within (suc zero) j = five-sum-within ws (before 1 dh (s + (j + 7))) (λ i. a _)
+      within (suc (suc zero)) j = five-sum-within ws (before s dv (4 * s + (j + 7))) (λ i. b _)
+      within (suc (suc (suc k))) j = five-sum-within ws (after s dv (4 * s + (j + 7))) (λ i. b _)
 
-module _ (s odd : ℕ) (x : List ℕ) (dh dv : List ℤ) (gh gv : List ℕ) where
-  green-from-sums : (j : ℕ) → j < length x → greenFrom scale (total evenWeights) odd x (sums s (length x) gh gv) (fives s (length x) dh dv) j ≡ greenIn scale evenWeights s odd x dh dv gh gv j
+  -- and so they are as small as green asks
+  pub fives-fit : total ws ≤ 128 → AllWithin mostDifference dh → AllWithin mostDifference dv → AllWithin 2097152 fives
+  fives-fit h a b k = omega (arith, fives-within a b k)
+
+module _ (K : ℕ) (ws : List ℕ) (s odd : ℕ) (x : List ℕ) (dh dv : List ℤ) (gh gv : List ℕ) where
+  green-from-sums : (j : ℕ) → j < length x → greenFrom K (total ws) odd x (sums s (length x) gh gv) (fives ws s (length x) dh dv) j ≡ greenIn K ws s odd x dh dv gh gv j
   unfolding greenFrom greenIn fusedBy
-  green-from-sums j h = λ i. cond (isOdd (j + odd)) (16 * getD x j 0) (green scale (total evenWeights) (getD x j 0) (d 0 (lit≤ tt) i) (d 1 (lit≤ tt) i ∷ d 2 (lit≤ tt) i ∷ d 3 (lit≤ tt) i ∷ []))
+  green-from-sums j h =
+      λ i. cond (isOdd (j + odd)) (16 * getD x j 0) (green K (total ws) (getD x j 0) (d 0 (lit≤ tt) i) (d 1 (lit≤ tt) i ∷ d 2 (lit≤ tt) i ∷ d 3 (lit≤ tt) i ∷ []))
     where
-      d : (k : ℕ) → k < 4 → directionFrom (length x) (sums s (length x) gh gv) (fives s (length x) dh dv) j k ≡ directionIn evenWeights s dh dv gh gv j k
-      d k l = ap₂ direction (getD-parts (fiveIn evenWeights s dh dv) (length x) 4 k j (pos 0) l h) (getD-parts (sumIn s gh gv) (length x) 4 k j 0 l h)
+      d : (k : ℕ) → k < 4 → directionFrom (length x) (sums s (length x) gh gv) (fives ws s (length x) dh dv) j k ≡ directionIn ws s dh dv gh gv j k
+      d k l = ap₂ direction (getD-parts (fiveIn ws s dh dv) (length x) 4 k j (pos 0) l h) (getD-parts (sumIn s gh gv) (length x) 4 k j 0 l h)
 
-  pub row-from-sums : {t : List ℕ} {f : List ℤ} (n : ℕ) → n ≡ length x → t ≡ sums s (length x) gh gv → f ≡ fives s (length x) dh dv
-      → table (greenFrom scale (total evenWeights) odd x t f) n ≡ table (greenIn scale evenWeights s odd x dh dv gh gv) n
-  row-from-sums n e p q = rw (p, q) (table-same _ _ n (λ j h. green-from-sums j (omega arith)))
+  pub row-from-sums : {T : ℕ} {t : List ℕ} {f : List ℤ} (n : ℕ) → n ≡ length x → T ≡ total ws → t ≡ sums s (length x) gh gv → f ≡ fives ws s (length x) dh dv
+      → table (greenFrom K T odd x t f) n ≡ table (greenIn K ws s odd x dh dv gh gv) n
+  row-from-sums n e r p q = rw (r, p, q) (table-same _ _ n (λ j h. green-from-sums j (omega arith)))

@@ -1,5 +1,6 @@
 pub mod ReadLaws
 pub mod BoundLaws
 pub mod RowLaws
+pub mod RowGreen
 pub mod DirectionLaws
 pub mod GreenRow

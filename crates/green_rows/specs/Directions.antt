@@ -20,7 +20,7 @@ after step d p k = getD d (p + k * step) (pos 0)
 abbrev pub before : (step : ℕ) (d : List ℤ) (p : ℕ) → ℕ → ℤ
 before step d p k = getD d (p - k * step) (pos 0)
 
--- Direction 0 is east, 1 west, 2 north, and every one from 3 on south. dh and gh hold the differences and gradients along the row, of the row before, the row and the row after;
+-- The buffers are drawn in green_blocks/specs/Block. Direction 0 is east, 1 west, 2 north, and every one from 3 on south. dh and gh hold the differences and gradients along the row, of the row before, the row and the row after;
 -- dv holds the differences along the column of the four rows before to the four rows after, and gv the gradients of the two rows before to the two after.
 -- Place j + 7 of a row of dh, dv and gv is column j. gh starts one place later: its place j + 6 is column j, and gv's place j + 6 is column j − 1
 

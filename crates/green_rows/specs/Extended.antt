@@ -3,10 +3,10 @@ use Prim.Native.Nat.{ℕ, _+_, _-_, _*_, _≤_, _<_}
 use mathlib.Core.List.{List}
 use lib.IntN.{subℕ}
 use lib.ListN.{length, getD}
-use Rattle.bayer.specs.declared.frame.Frame.{Frame}
-use Rattle.bayer.specs.Mirror.{mirror}
 use Rattle.lists.specs.Part.{rowOf}
 use Rattle.lists.specs.Table.{table}
+use Rattle.bayer.specs.declared.frame.Frame.{Frame}
+use Rattle.bayer.specs.Mirror.{mirror}
 
 -- place c of a row is column c − 7
 abbrev pub column : (row : List ℕ) (c : ℕ) → ℕ

@@ -1,3 +1,4 @@
 pub mod Directions
-pub mod Buffer
+pub mod AlongAxis
+pub mod GreenIn
 pub mod Extended

@@ -2,7 +2,7 @@ ghost use mathlib.Core.Path.{_≡_};
 ghost use Prim.Native.Nat.{_+_, _*_, _≤_, _<_};
 ghost use lib.ListN.{length};
 ghost use Rattle.lists.specs.Table.{table};
-ghost use Rattle.green_rows.specs.Buffer.{differenceIn, gradientIn};
+ghost use Rattle.green_rows.specs.AlongAxis.{differenceIn, gradientIn};
 use gbtf::difference::difference;
 use gbtf::difference::gradient;
 

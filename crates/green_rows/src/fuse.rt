@@ -2,17 +2,18 @@ ghost use mathlib.Core.Path.{_≡_};
 ghost use Prim.Native.Nat.{_+_, _*_, _≤_, _<_};
 ghost use lib.ListN.{length};
 ghost use Rattle.lists.specs.Table.{table};
-ghost use Rattle.gbtf.specs.Direction.{total};
-ghost use Rattle.gbtf.specs.Weights.{scale, evenWeights};
-ghost use Rattle.green_rows.specs.Directions.{directionFrom};
-ghost use Rattle.green_rows.specs.Buffer.{fusedBy, greenFrom, greenIn};
 ghost use Rattle.lists.specs.Bound.{AllAtMost, AllWithin};
+ghost use Rattle.gbtf.specs.Bounds.{mostDifference, mostGradient, mostSum};
+ghost use Rattle.gbtf.specs.Direction.{total};
+ghost use Rattle.gbtf.specs.Weights.{scale};
+ghost use Rattle.green_rows.specs.Directions.{directionFrom};
+ghost use Rattle.green_rows.specs.GreenIn.{fusedBy, greenFrom, greenIn};
 use crate::directions::row_fives;
 use crate::directions::row_sums;
-use crate::weights::SCALE;
-use crate::weights::TOTAL;
 use gbtf::direction::Direction;
 use gbtf::fusion::green;
+use gbtf::weights::SCALE;
+use gbtf::weights::total;
 
 // Direction k of column j, of a row of w readings whose direction sums are t and five-sums f.
 fn direction_at(w: usize, t: &[u32], f: &[i32], k: usize, j: usize) -> Direction
@@ -21,52 +22,53 @@ fn direction_at(w: usize, t: &[u32], f: &[i32], k: usize, j: usize) -> Direction
 {
     let p = k * w + j;
     Direction {
-        differences: f[p] as i64,
-        gradients: t[p] as u64,
+        five: f[p] as i64,
+        sum: t[p] as u64,
     }
 }
 
-// Green at a red or blue pixel of reading c, column j.
-fn green_at(c: u16, w: usize, t: &[u32], f: &[i32], j: usize) -> u16
-    requires { ⌜ (j < w) × (length (now t) ≡ 4 * w) × (length (now f) ≡ 4 * w) × (AllAtMost 294840 (now t)) × (AllWithin 81900 (now f)) ⌝ }
-    ensures { λ r. ⌜ r ≡ fusedBy scale (total evenWeights) c (directionFrom w (now (t .entry)) (now (f .entry)) j) ⌝ }
+// Green at a red or blue pixel of reading c, column j, with the weights' total.
+fn green_at(total: u64, c: u16, w: usize, t: &[u32], f: &[i32], j: usize) -> u16
+    requires { ⌜ (j < w) × (length (now t) ≡ 4 * w) × (length (now f) ≡ 4 * w) × (AllAtMost mostSum (now t)) × (AllWithin 2097152 (now f)) × (0 < total) × (total ≤ 128) ⌝ }
+    ensures { λ r. ⌜ r ≡ fusedBy scale total c (directionFrom w (now (t .entry)) (now (f .entry)) j) ⌝ }
 {
     let east = direction_at(w, t, f, 0, j);
     let west = direction_at(w, t, f, 1, j);
     let north = direction_at(w, t, f, 2, j);
     let south = direction_at(w, t, f, 3, j);
-    green(SCALE, TOTAL, c, east, west, north, south)
+    green(SCALE, total, c, east, west, north, south)
 }
 
 // Green of column j of a row of readings x.
-fn pixel(x: &[u16], odd: usize, t: &[u32], f: &[i32], j: usize) -> u16
-    requires { ⌜ (odd < 2) × (AllAtMost 4095 (now x)) × (j < length (now x)) ⌝ }
-    requires { ⌜ (length (now t) ≡ 4 * length (now x)) × (length (now f) ≡ 4 * length (now x)) × (AllAtMost 294840 (now t)) × (AllWithin 81900 (now f)) ⌝ }
-    ensures { λ r. ⌜ r ≡ greenFrom scale (total evenWeights) odd (now (x .entry)) (now (t .entry)) (now (f .entry)) j ⌝ }
+fn pixel(total: u64, x: &[u16], odd: usize, t: &[u32], f: &[i32], j: usize) -> u16
+    requires { ⌜ (odd < 2) × (AllAtMost 4095 (now x)) × (j < length (now x)) × (0 < total) × (total ≤ 128) ⌝ }
+    requires { ⌜ (length (now t) ≡ 4 * length (now x)) × (length (now f) ≡ 4 * length (now x)) × (AllAtMost mostSum (now t)) × (AllWithin 2097152 (now f)) ⌝ }
+    ensures { λ r. ⌜ r ≡ greenFrom scale total odd (now (x .entry)) (now (t .entry)) (now (f .entry)) j ⌝ }
 {
     let c = x[j];
     if (j + odd) % 2 == 1 {
         16 * c
     } else {
-        green_at(c, x.len(), t, f, j)
+        green_at(total, c, x.len(), t, f, j)
     }
 }
 
 // Green of a row of readings x, from its direction sums t and five-sums f.
-fn fuse_row(x: &[u16], odd: usize, t: &[u32], f: &[i32], out: &mut [u16])
-    requires { ⌜ (odd < 2) × (AllAtMost 4095 (now x)) × (length (now out) ≡ length (now x)) ⌝ }
-    requires { ⌜ (length (now t) ≡ 4 * length (now x)) × (length (now f) ≡ 4 * length (now x)) × (AllAtMost 294840 (now t)) × (AllWithin 81900 (now f)) ⌝ }
-    ensures { λ _. ⌜ now (out .exit) ≡ table (greenFrom scale (total evenWeights) odd (now (x .entry)) (now (t .entry)) (now (f .entry))) (length (now (out .entry))) ⌝ }
+fn fuse_row(total: u64, x: &[u16], odd: usize, t: &[u32], f: &[i32], out: &mut [u16])
+    requires { ⌜ (odd < 2) × (AllAtMost 4095 (now x)) × (length (now out) ≡ length (now x)) × (0 < total) × (total ≤ 128) ⌝ }
+    requires { ⌜ (length (now t) ≡ 4 * length (now x)) × (length (now f) ≡ 4 * length (now x)) × (AllAtMost mostSum (now t)) × (AllWithin 2097152 (now f)) ⌝ }
+    ensures { λ _. ⌜ now (out .exit) ≡ table (greenFrom scale total odd (now (x .entry)) (now (t .entry)) (now (f .entry))) (length (now (out .entry))) ⌝ }
 {
     let mut j = 0;
     while j < out.len() {
-        out[j] = pixel(x, odd, t, f, j);
+        out[j] = pixel(total, x, odd, t, f, j);
         j += 1;
     }
 }
 
 // Green of a row of readings x. t and f are room for its direction sums and five-sums; what they held before does not matter, and what they hold afterwards is not promised.
 pub fn fuse(
+    weights: [u8; 5],
     x: &[u16],
     s: usize,
     odd: usize,
@@ -78,13 +80,13 @@ pub fn fuse(
     f: &mut [i32],
     out: &mut [u16],
 )
-    requires { ⌜ (odd < 2) × (AllAtMost 4095 (now x)) × (length (now out) ≡ length (now x)) ⌝ }
+    requires { ⌜ (odd < 2) × (AllAtMost 4095 (now x)) × (length (now out) ≡ length (now x)) × (0 < total weights) × (total weights ≤ 128) ⌝ }
     requires { ⌜ (length (now x) + 14 ≤ s) × (s < 4112) × (length (now dh) ≡ 3 * s) × (length (now dv) ≡ 9 * s) × (length (now gh) + 2 ≡ 3 * s) × (length (now gv) ≡ 5 * s) ⌝ }
-    requires { ⌜ (AllWithin 16380 (now dh)) × (AllWithin 16380 (now dv)) × (AllAtMost 32760 (now gh)) × (AllAtMost 32760 (now gv)) ⌝ }
+    requires { ⌜ (AllWithin mostDifference (now dh)) × (AllWithin mostDifference (now dv)) × (AllAtMost mostGradient (now gh)) × (AllAtMost mostGradient (now gv)) ⌝ }
     requires { ⌜ (length (now t) ≡ 4 * length (now x)) × (length (now f) ≡ 4 * length (now x)) ⌝ }
-    ensures { λ _. ⌜ now (out .exit) ≡ table (greenIn scale evenWeights s odd (now (x .entry)) (now (dh .entry)) (now (dv .entry)) (now (gh .entry)) (now (gv .entry))) (length (now (out .entry))) ⌝ }
+    ensures { λ _. ⌜ now (out .exit) ≡ table (greenIn scale weights s odd (now (x .entry)) (now (dh .entry)) (now (dv .entry)) (now (gh .entry)) (now (gv .entry))) (length (now (out .entry))) ⌝ }
 {
     row_sums(s, gh, gv, x.len(), t);
-    row_fives(s, dh, dv, x.len(), f);
-    fuse_row(x, odd, t, f, out);
+    row_fives(weights, s, dh, dv, x.len(), f);
+    fuse_row(total(weights), x, odd, t, f, out);
 }

@@ -4,4 +4,3 @@ pub mod directions;
 pub mod extend;
 pub mod fuse;
 pub mod sums;
-pub mod weights;

@@ -1,10 +1,11 @@
 ghost use mathlib.Core.Path.{_≡_};
 ghost use Prim.Native.Nat.{_+_, _*_, _≤_, _<_};
 ghost use lib.ListN.{length};
-ghost use Rattle.gbtf.specs.Direction.{directionSum, fiveSum, total};
 ghost use Rattle.lists.specs.Table.{table};
-ghost use Rattle.green_rows.specs.Directions.{windowIn, after};
 ghost use Rattle.lists.specs.Bound.{AllAtMost, AllWithin};
+ghost use Rattle.gbtf.specs.Bounds.{mostDifference, mostGradient};
+ghost use Rattle.gbtf.specs.Direction.{directionSum, fiveSum, total};
+ghost use Rattle.green_rows.specs.Directions.{windowIn, after};
 use gbtf::direction::direction_sum;
 use gbtf::direction::five_sum;
 
@@ -24,7 +25,7 @@ fn window(g: &[u32], s: usize, q: usize) -> [[u32; 3]; 3]
 
 // The direction sums of the windows from place `at` on.
 pub fn sums(g: &[u32], s: usize, at: usize, out: &mut [u32])
-    requires { ⌜ (at + length (now out) + 2 * s + 2 ≤ length (now g)) × (AllAtMost 32760 (now g)) ⌝ }
+    requires { ⌜ (at + length (now out) + 2 * s + 2 ≤ length (now g)) × (AllAtMost mostGradient (now g)) ⌝ }
     ensures { λ _. ⌜ now (out .exit) ≡ table (λ k. directionSum (windowIn s (now (g .entry)) (at + k))) (length (now (out .entry))) ⌝ }
 {
     let mut k = 0;
@@ -36,7 +37,7 @@ pub fn sums(g: &[u32], s: usize, at: usize, out: &mut [u32])
 
 // The five-sum of places p, p + step, ..
 fn five_at(weights: [u8; 5], d: &[i32], step: usize, p: usize) -> i32
-    requires { ⌜ (p + 4 * step < length (now d)) × (AllWithin 16380 (now d)) × (total weights ≤ 128) ⌝ }
+    requires { ⌜ (p + 4 * step < length (now d)) × (AllWithin mostDifference (now d)) × (total weights ≤ 128) ⌝ }
     ensures { λ r. ⌜ r ≡ fiveSum weights (after step (now (d .entry)) p) ⌝ }
 {
     five_sum(
@@ -53,7 +54,7 @@ fn five_at(weights: [u8; 5], d: &[i32], step: usize, p: usize) -> i32
 
 // The five-sums from place `at` on, of places `step` apart.
 pub fn fives(weights: [u8; 5], d: &[i32], step: usize, at: usize, out: &mut [i32])
-    requires { ⌜ (at + length (now out) + 4 * step ≤ length (now d)) × (AllWithin 16380 (now d)) × (total weights ≤ 128) ⌝ }
+    requires { ⌜ (at + length (now out) + 4 * step ≤ length (now d)) × (AllWithin mostDifference (now d)) × (total weights ≤ 128) ⌝ }
     ensures { λ _. ⌜ now (out .exit) ≡ table (λ k. fiveSum weights (after step (now (d .entry)) (at + k))) (length (now (out .entry))) ⌝ }
 {
     let mut k = 0;

@@ -1,28 +1,28 @@
 -- DEMAND 3: after any list of strip calls over one frame, each of which keeps the contract, every covered row is within the printed error, and every other row is as before.
 -- And what users cite beside it: no seams, and no trace of what a plane held before. Assumes nothing.
-use mathlib.Core.Path.{_≡_, refl, sym, _∙_, ap, ap₂, subst}
+use mathlib.Core.Path.{_≡_, refl, sym, _∙_, ap, ap₂}
 use mathlib.Core.Logic.{inl, inr}
 use mathlib.Core.List.{List, [], _∷_, map}
 use Prim.Native.Nat.{ℕ, zero, suc, _+_, _*_, _-_, _≤_, _<_}
 use native.Mathlib.Omega.{arith}
-use lib.Dec.{lit≤}
-use lib.IntN.{ℤ, pos}
+use lib.IntN.{pos}
 use lib.ListN.{length, getD, drop, length-drop}
 use lib.Seq.{length-take-le}
 use Rattle.whole.specs.Fraction.{natural, Within}
+use Rattle.lists.specs.Part.{rowOf, part, put}
+use Rattle.lists.proofs.PartLaws.{row-entry}
 use Rattle.bayer.specs.declared.colour.Colour.{Colour}
 use Rattle.bayer.specs.declared.colour.Colour.the-variants.{Red, Green, Blue}
 use Rattle.bayer.specs.declared.frame.Frame.{Frame}
 use Rattle.bayer.specs.Colour.{colourAt}
 use Rattle.bayer.specs.Piece.{pieceStart, pieceOf}
 use Rattle.bayer.specs.Mirror.{mirror}
-use Rattle.lists.proofs.PartLaws.{row-entry}
-use Rattle.lists.specs.Part.{rowOf, part, put}
-use Rattle.bayer.proofs.MirrorLaws.{mirror-inside}
 use Rattle.bayer.specs.Planes.{Planes, threePlanes}
+use Rattle.bayer.specs.Mosaic.{continued}
+use Rattle.bayer.proofs.MirrorLaws.{mirror-inside}
+use Rattle.bayer.proofs.RefusalLaws.{refused-holds}
 use Rattle.calls.specs.Calls.{Call, accepted, refused, Rows, Step, Runs, Covers, Covered, After}
 use Rattle.calls.proofs.CallList.{after-calls}
-use Rattle.bayer.specs.Mosaic.{Mosaic, continued}
 use Rattle.green_rule.proofs.GreensLaws.{greens-observed}
 use Rattle.demosaic.specs.Sample.{otherFrom, sample}
 use Rattle.demosaic.specs.Exact.{exactSample, printedError}
@@ -30,7 +30,6 @@ use Rattle.demosaic.proofs.SampleError.{printed-error}
 use Rattle.demosaic.proofs.FrameLocal.{piece-sample, piece-exactSample}
 use Rattle.demosaic.proofs.PlaneRowsLaws.{plane-length, plane-at}
 use Rattle.strip.specs.Strip.{Asked, asked, stripPlane, Promise}
-use Rattle.bayer.proofs.RefusalLaws.{refused-holds}
 use Rattle.strip.specs.Demand.{StripCall, numberOf, Accepted, OfFrame, Called, CalledAll, CoveredBy, Demanded, Cited}
 use Rattle.strip.proofs.StripLaws.{Fits, fits}
 use Rattle.strip.proofs.Demand2.{promised, accepted-plane}

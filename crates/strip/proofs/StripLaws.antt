@@ -17,8 +17,8 @@ use Rattle.bayer.specs.Piece.{pieceStart, pieceEnd, pieceRows}
 use Rattle.bayer.specs.Condition.{frameCases, FrameFits, rowsCases}
 use Rattle.bayer.proofs.RefusalLaws.{off, off-append}
 use Rattle.bayer.proofs.ConditionLaws.{frame-fits, rows-fit, readings-fit}
-use Rattle.green_rows.specs.Extended.{Lent}
 use Rattle.demosaic.proofs.FrameLocal.{in-piece}
+use Rattle.green_rows.specs.Extended.{Lent}
 use Rattle.strip_rows.specs.Rows.{Readable}
 use Rattle.strip.specs.Strip.{Asked, lengthCases, stripNumber}
 

@@ -5,13 +5,13 @@ use mathlib.Core.Logic.{_⊎_}
 use mathlib.Core.List.{List, [], _∷_}
 use lib.ListN.{length, getD}
 use Rattle.whole.specs.Fraction.{natural, Within}
+use Rattle.lists.specs.Part.{part, put}
 use Rattle.bayer.specs.declared.colour.Colour.{Colour}
 use Rattle.bayer.specs.declared.colour.Colour.the-variants.{Red, Green, Blue}
 use Rattle.bayer.specs.declared.frame.Frame.{Frame}
 use Rattle.bayer.specs.Colour.{colourAt}
 use Rattle.bayer.specs.Piece.{pieceOf}
 use Rattle.bayer.specs.Planes.{Planes}
-use Rattle.lists.specs.Part.{part, put}
 use Rattle.demosaic.specs.Exact.{exactSample, printedError}
 use Rattle.strip.specs.Strip.{Asked, stripNumber, Promise}
 

@@ -10,25 +10,25 @@ use lib.Dec.{lit≤}
 use lib.IntN.{ℤ, pos, subℕ, _+ℤ_, _-ℤ_}
 use lib.ListN.{length, take, drop}
 use Rattle.whole.proofs.Pairs.{sub-eq, sub-pos}
+use Rattle.lists.specs.Part.{rowOf}
+use Rattle.lists.specs.Table.{table}
+use Rattle.lists.specs.Bound.{AllAtMost}
+use Rattle.lists.proofs.TableLaws.{length-table}
+use Rattle.lists.proofs.PartLaws.{part-length, row-is}
+use Rattle.lists.proofs.BoundLaws.{row-at-most}
 use Rattle.bayer.specs.declared.colour.Colour.{Colour}
 use Rattle.bayer.specs.declared.colour.Colour.the-variants.{Red, Green, Blue}
 use Rattle.bayer.specs.declared.frame.Frame.{Frame}
 use Rattle.bayer.specs.Colour.{same, partner}
 use Rattle.bayer.specs.Mirror.{mirror}
-use Rattle.lists.specs.Part.{rowOf}
-use Rattle.bayer.proofs.ColourLaws.{partner-shares}
-use Rattle.lists.specs.Table.{table}
 use Rattle.bayer.specs.Parity.{startsGreen}
-use Rattle.lists.specs.Bound.{AllAtMost}
-use Rattle.green_rows.specs.Extended.{Lent}
-use Rattle.lists.proofs.TableLaws.{length-table}
-use Rattle.lists.proofs.PartLaws.{part-length, row-is}
-use Rattle.lists.proofs.BoundLaws.{row-at-most}
+use Rattle.bayer.proofs.ColourLaws.{partner-shares}
 use Rattle.bayer.proofs.ParityLaws.{starts-below}
+use Rattle.green_rule.specs.Greens.{greens, greenRow}
+use Rattle.green_rows.specs.Extended.{Lent}
 use Rattle.green_rows.proofs.GreenRow.{row-start, row-end}
 use Rattle.fill_rows.specs.Rows.{ownIn, otherIn, opposite}
 use Rattle.fill_rows.proofs.FillRowLaws.{own-row-is, other-row-is}
-use Rattle.green_rule.specs.Greens.{greens, greenRow}
 use Rattle.strip_rows.specs.Rows.{colourRow}
 
 -- ---- colours

@@ -8,13 +8,12 @@ use borrow.Author.Tests.{lt-ltb, le-ltb}
 use lib.IntN.{pos, subℕ, _+ℤ_, _-ℤ_}
 use lib.ListN.{length}
 use Rattle.whole.proofs.Pairs.{subₚ, natₚ, _-ₚ_, eq-by}
-use Rattle.bayer.specs.declared.frame.Frame.{Frame}
-use Rattle.bayer.specs.Mirror.{mirror}
 use Rattle.lists.specs.Part.{rowOf}
-use Rattle.bayer.proofs.MirrorLaws.{mirror-inside, mirror-above, mirror-below, mirror-from}
-use Rattle.lists.specs.Table.{joined}
 use Rattle.lists.proofs.TableLaws.{length-table}
 use Rattle.lists.proofs.JoinedLaws.{length-joined, row-joined}
+use Rattle.bayer.specs.declared.frame.Frame.{Frame}
+use Rattle.bayer.specs.Mirror.{mirror}
+use Rattle.bayer.proofs.MirrorLaws.{mirror-inside, mirror-above, mirror-below, mirror-from}
 use Rattle.green_rule.specs.Greens.{greenRow}
 use Rattle.strip_rows.specs.Rows.{Readable, GreensOf, amongGreens}
 

@@ -1,13 +1,13 @@
 ghost use mathlib.Core.Path.{_≡_};
 ghost use mathlib.Core.Bool.{false};
-ghost use Prim.Native.Nat.{ℕ, _+_, _*_, _-_, _≤_, _<_};
+ghost use Prim.Native.Nat.{_+_, _*_, _-_, _≤_, _<_};
 ghost use lib.IntN.{pos, _+ℤ_, _-ℤ_};
 ghost use lib.ListN.{length};
+ghost use Rattle.lists.specs.Table.{joined};
+ghost use Rattle.lists.specs.Bound.{AllAtMost};
 ghost use Rattle.bayer.specs.declared.colour.Colour.the-variants.{Red, Green, Blue};
 ghost use Rattle.bayer.specs.Colour.{same};
 ghost use Rattle.bayer.specs.Mirror.{mirror};
-ghost use Rattle.lists.specs.Table.{joined};
-ghost use Rattle.lists.specs.Bound.{AllAtMost};
 ghost use Rattle.green_rule.specs.Greens.{greenRow};
 ghost use Rattle.demosaic.specs.Sample.{planeRows};
 ghost use Rattle.green_rows.specs.Extended.{Lent};

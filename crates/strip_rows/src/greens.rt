@@ -6,7 +6,7 @@ ghost use Rattle.green_rows.specs.Extended.{Lent};
 ghost use Rattle.green_blocks.specs.Room.{Room};
 ghost use Rattle.strip_rows.specs.Rows.{Readable, GreenBeside, GreensOf};
 use bayer::frame::Frame;
-use green_blocks::rows::green_rows;
+use green_blocks::blocks::green_rows;
 
 // Green of row u - 1, if the frame has such a row. x, d, g, t and f are room to work in.
 fn green_beside(

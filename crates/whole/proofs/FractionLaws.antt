@@ -1,5 +1,6 @@
 -- Laws of fractions and of their distance. Each is shown for one side, `AtMost`, and paired. Assumes nothing.
 use mathlib.Core.Path.{_≡_, refl, ap}
+use mathlib.Core.Bool.{Bool, true, false, cond}
 use Prim.Native.Nat.{ℕ, _+_, _*_, _-_, _≤_, _<_}
 use native.Mathlib.Nat.{mul-le-mul-left, le-of-mul-le-mul-left, add-comm, add-zero, zero-add}
 use native.Mathlib.Decide.{decLe}
@@ -21,23 +22,30 @@ add-up c h k e f = omega arith
 trans-left : (xp xu yp yn yu zn zu b : ℕ) → zu * (b * (xp * yu + yn * xu)) + xu * (b * (yp * zu + zn * yu)) ≡ yu * (b * (xp * zu + zn * xu)) + (xu * (b * (yp * zu)) + zu * (b * (yn * xu)))
 trans-left xp xu yp yn yu zn zu b = omega arith
 
-trans-right : (xn xu yp yn yu zp zu a c b : ℕ) → zu * (b * (yp * xu + xn * yu) + a * (xu * yu)) + xu * (b * (zp * yu + yn * zu) + c * (yu * zu)) ≡ yu * (b * (zp * xu + xn * zu) + (a + c) * (xu * zu)) + (xu * (b * (yp * zu)) + zu * (b * (yn * xu)))
+trans-right : (xn xu yp yn yu zp zu a c b : ℕ)
+    → zu * (b * (yp * xu + xn * yu) + a * (xu * yu)) + xu * (b * (zp * yu + yn * zu) + c * (yu * zu)) ≡ yu * (b * (zp * xu + xn * zu) + (a + c) * (xu * zu)) + (xu * (b * (yp * zu)) + zu * (b * (yn * xu)))
 trans-right xn xu yp yn yu zp zu a c b = omega arith
 
 pub atmost-trans : (x y z : Fraction) (a c b : ℕ) → AtMost x y a b → AtMost y z c b → AtMost x z (a + c) b
-atmost-trans x y z a c b h k = le-of-mul-le-mul-left {k = y .under} (add-up _ (mul-le-mul-left (z .under) h) (mul-le-mul-left (x .under) k) (trans-left (x .plus) (x .under) (y .plus) (y .minus) (y .under) (z .minus) (z .under) b) (trans-right (x .minus) (x .under) (y .plus) (y .minus) (y .under) (z .plus) (z .under) a c b)) (y .proper)
+atmost-trans x y z a c b h k =
+    le-of-mul-le-mul-left {k = y .under}
+    (add-up _ (mul-le-mul-left (z .under) h) (mul-le-mul-left (x .under) k) (trans-left (x .plus) (x .under) (y .plus) (y .minus) (y .under) (z .minus) (z .under) b)
+    (trans-right (x .minus) (x .under) (y .plus) (y .minus) (y .under) (z .plus) (z .under) a c b)) (y .proper)
 
 add-left : (xp xu yn yu up uu vn vu b : ℕ) → (uu * vu) * (b * (xp * yu + yn * xu)) + (xu * yu) * (b * (up * vu + vn * uu)) ≡ b * ((xp * uu + up * xu) * (yu * vu) + (yn * vu + vn * yu) * (xu * uu))
 add-left xp xu yn yu up uu vn vu b = omega arith
 
-add-right : (xn xu yp yu un uu vp vu a c b : ℕ) → (uu * vu) * (b * (yp * xu + xn * yu) + a * (xu * yu)) + (xu * yu) * (b * (vp * uu + un * vu) + c * (uu * vu)) ≡ b * ((yp * vu + vp * yu) * (xu * uu) + (xn * uu + un * xu) * (yu * vu)) + (a + c) * ((xu * uu) * (yu * vu))
+add-right : (xn xu yp yu un uu vp vu a c b : ℕ)
+    → (uu * vu) * (b * (yp * xu + xn * yu) + a * (xu * yu)) + (xu * yu) * (b * (vp * uu + un * vu) + c * (uu * vu)) ≡ b * ((yp * vu + vp * yu) * (xu * uu) + (xn * uu + un * xu) * (yu * vu)) + (a + c) * ((xu * uu) * (yu * vu))
 add-right xn xu yp yu un uu vp vu a c b = omega arith
 
 pub both : {A B C D G H : ℕ} → A ≤ B → C ≤ D → A + C ≡ G → B + D ≡ H → G ≤ H
 both h k e f = omega arith
 
 pub atmost-add : (x y u v : Fraction) (a c b : ℕ) → AtMost x y a b → AtMost u v c b → AtMost (x +ᶠ u) (y +ᶠ v) (a + c) b
-atmost-add x y u v a c b h k = both (mul-le-mul-left (u .under * v .under) h) (mul-le-mul-left (x .under * y .under) k) (add-left (x .plus) (x .under) (y .minus) (y .under) (u .plus) (u .under) (v .minus) (v .under) b) (add-right (x .minus) (x .under) (y .plus) (y .under) (u .minus) (u .under) (v .plus) (v .under) a c b)
+atmost-add x y u v a c b h k =
+    both (mul-le-mul-left (u .under * v .under) h) (mul-le-mul-left (x .under * y .under) k) (add-left (x .plus) (x .under) (y .minus) (y .under) (u .plus) (u .under) (v .minus) (v .under) b)
+    (add-right (x .minus) (x .under) (y .plus) (y .under) (u .minus) (u .under) (v .plus) (v .under) a c b)
 
 pub atmost-neg : (x y : Fraction) (a b : ℕ) → AtMost x y a b → AtMost (negᶠ y) (negᶠ x) a b
 atmost-neg x y a b h = omega arith
@@ -111,6 +119,10 @@ within-shift n {x} {y} {a} {b} h = rw (zero-add a) at (within-add {x = n} {y = n
 
 pub within-less : (n : Fraction) {x y : Fraction} {a b : ℕ} → Within x y a b → Within (x -ᶠ n) (y -ᶠ n) a b
 within-less n {x} {y} {a} {b} h = rw (add-zero a) at (within-sub {x = x} {y = y} {u = n} {v = n} {c = 0} h (within-same {x = n} {y = n} b refl))
+
+pub within-cond : (b : Bool) {x y : ℕ} {X Y : Fraction} {a c : ℕ} → Within (natural x) X a c → Within (natural y) Y a c → Within (natural (cond b x y)) (cond b X Y) a c
+within-cond true h k = h
+within-cond false h k = k
 
 pub within-eq : {x y : Fraction} {a c b : ℕ} → a ≡ c → Within x y a b → Within x y c b
 within-eq e h = rw e at h

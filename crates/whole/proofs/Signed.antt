@@ -19,9 +19,9 @@ use lib.IntN.{ℤ, pos, negsuc, natAbs, _+ℤ_, _-ℤ_, _*ℤ_}
 use mir.Syntax.{Width, w32, w64}
 use mir.Val.{Fits, SFits, hbits, ofZ, toZ}
 use mir.ValLaws.{toZ-pos, toZ-ofZ}
+use Rattle.whole.specs.Floor.{floorDiv}
 use Rattle.whole.proofs.Tests.{first, second}
 use Rattle.whole.proofs.Pairs.{sub-pos}
-use Rattle.whole.specs.Floor.{floorDiv}
 use Rattle.whole.proofs.FloorLaws.{shr-floor}
 use Rattle.whole.proofs.Magnitudes.{add-within, sub-within, mul-within, fits-within, abs-of-fits}
 

@@ -7,9 +7,9 @@ use lib.IntN.{natAbs}
 use mir.Syntax.{w64}
 use Rattle.whole.proofs.Pairs.{natₚ, _-ₚ_, abs-by}
 use Rattle.whole.proofs.Signed.{E, nat, lit, _⊖_, asked, value}
-use borrow.Author.Needs.{needs}
 use Rattle.cases.proofs.fusion_case.five_sum.Statement.{statement}
 use Rattle.cases.proofs.fusion_case.five_sum.Tie as tie
+use borrow.Author.Needs.{needs}
 
 abbrev difference : tie.Start → E w64
 difference c = nat (c .args .a % 4194304) 4194303 (omega arith) ⊖ lit 2097152

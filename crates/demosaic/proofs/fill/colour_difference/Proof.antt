@@ -7,9 +7,9 @@ use lib.IntN.{natAbs}
 use mir.Syntax.{w32}
 use Rattle.whole.proofs.Pairs.{natₚ, _-ₚ_, within-by}
 use Rattle.whole.proofs.Signed.{E, lit, nat, _⊖_, _⊗_, asked, value}
-use borrow.Author.Needs.{needs}
 use Rattle.demosaic.proofs.fill.colour_difference.Statement.{statement}
 use Rattle.demosaic.proofs.fill.colour_difference.Tie as tie
+use borrow.Author.Needs.{needs}
 
 abbrev scaled : tie.Start → E w32
 scaled c = lit 16 ⊗ nat (c .args .reading) 65535 (omega arith)

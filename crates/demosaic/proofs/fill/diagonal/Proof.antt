@@ -5,9 +5,9 @@ use mir.Syntax.{w32}
 use Rattle.whole.proofs.Signed.{E, int, _⊕_, asked, value, bounded}
 use Rattle.whole.proofs.Pairs.{four-terms}
 use Rattle.demosaic.proofs.FillLaws.{shift-fills}
-use borrow.Author.Needs.{needs}
 use Rattle.demosaic.proofs.fill.diagonal.Statement.{statement}
 use Rattle.demosaic.proofs.fill.diagonal.Tie as tie
+use borrow.Author.Needs.{needs}
 
 abbrev above : tie.Start → E w32
 above c = int (c .args .nw) 1048560 (c .pre .0) ⊕ int (c .args .ne) 1048560 (c .pre .1)

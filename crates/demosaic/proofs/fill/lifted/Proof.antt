@@ -1,9 +1,9 @@
 -- `demosaic::fill::lifted` meets its contract. Assumes nothing.
 use mir.Syntax.{w32}
 use Rattle.whole.proofs.Signed.{E, nat, int, _⊕_, _⊖_, asked, value, bounded}
-use borrow.Author.Needs.{needs}
 use Rattle.demosaic.proofs.fill.lifted.Statement.{statement}
 use Rattle.demosaic.proofs.fill.lifted.Tie as tie
+use borrow.Author.Needs.{needs}
 
 abbrev less : tie.Start → E w32
 less c = nat (c .args .n) 262140 (c .pre .0) ⊖ int (c .args .sum) 4194240 (c .pre .1)

@@ -5,9 +5,9 @@ use lib.IntN.{_+ℤ_, +ℤ-idr}
 use mir.Syntax.{w32}
 use Rattle.whole.proofs.Signed.{E, int, _⊕_, asked, value, bounded}
 use Rattle.demosaic.proofs.FillLaws.{shift-fills}
-use borrow.Author.Needs.{needs}
 use Rattle.demosaic.proofs.fill.pair.Statement.{statement}
 use Rattle.demosaic.proofs.fill.pair.Tie as tie
+use borrow.Author.Needs.{needs}
 
 abbrev sum : tie.Start → E w32
 sum c = int (c .args .before) 1048560 (c .pre .0) ⊕ int (c .args .after) 1048560 (c .pre .1)

@@ -11,9 +11,9 @@ use Rattle.demosaic.specs.Fill.{fill}
 use Rattle.fill_rows.specs.Rows.{leftOf, rightOf, colourDifferenceAt, otherIn}
 use Rattle.fill_rows.proofs.SideLaws.{side-in}
 use Rattle.fill_rows.proofs.ChoiceLaws.{read-at, two-same, four-same, clamp-cond}
-use borrow.Author.Needs.{needs}
 use Rattle.fill_rows.proofs.rows.other_between.Statement.{statement}
 use Rattle.fill_rows.proofs.rows.other_between.Tie as tie
+use borrow.Author.Needs.{needs}
 
 -- what is read lies inside the rows
 sides : (c : tie.Start) → let w = length (c .args .g .now) in (c .args .l < w) × (c .args .r < w)

@@ -11,9 +11,9 @@ use Rattle.demosaic.specs.Fill.{fill}
 use Rattle.fill_rows.specs.Rows.{leftOf, rightOf, ownIn}
 use Rattle.fill_rows.proofs.SideLaws.{side-in}
 use Rattle.fill_rows.proofs.ChoiceLaws.{read-at, two-same, clamp-or}
-use borrow.Author.Needs.{needs}
 use Rattle.fill_rows.proofs.rows.own_between.Statement.{statement}
 use Rattle.fill_rows.proofs.rows.own_between.Tie as tie
+use borrow.Author.Needs.{needs}
 
 -- what is read lies inside the row
 sides : (c : tie.Start) → let w = length (c .args .x .now) in (c .args .l < w) × (c .args .r < w)

@@ -9,8 +9,8 @@ use borrow.Kind.Array.{eInt, good-length}
 use lib.ListN.{length, take}
 use lib.Seq.{length-take-le, take-all}
 use mir.Syntax.{w8}
-use Rattle.frame_file.specs.FrameFile.{output}
 use Rattle.plane_text.specs.Written.{Answered}
+use Rattle.frame_file.specs.FrameFile.{output}
 use Rattle.frame_file.proofs.AnswerLaws.{read-decides}
 use Rattle.frame_file.proofs.answer.answer_read.Statement.{statement}
 use Rattle.frame_file.proofs.answer.answer_read.Tie as tie

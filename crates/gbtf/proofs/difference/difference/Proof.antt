@@ -8,10 +8,10 @@ use mir.Syntax.{w32}
 use Rattle.whole.proofs.Pairs.{anyₚ, eq-by}
 use Rattle.whole.proofs.Signed.{read-result}
 use Rattle.gbtf.specs.Difference.{difference}
-use Rattle.gbtf.proofs.PixelLaws.{differenceₚ, difference-within}
-use borrow.Author.Needs.{needs}
+use Rattle.gbtf.proofs.PixelBounds.{differenceₚ, difference-within}
 use Rattle.gbtf.proofs.difference.difference.Statement.{statement}
 use Rattle.gbtf.proofs.difference.difference.Tie as tie
+use borrow.Author.Needs.{needs}
 
 at-green : (c : tie.After-minus) → let a = c .before .before .args in c .minus .result ≡ difference (a .green) (a .c) (a .l) (a .r) (a .p) (a .q)
 unfolding difference

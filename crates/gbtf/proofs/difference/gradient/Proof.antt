@@ -10,9 +10,9 @@ use Rattle.whole.specs.Parts.{up, down}
 use Rattle.whole.proofs.Pairs.{anyₚ, _-ₚ_, within-by}
 use Rattle.whole.proofs.Signed.{E, widened, _⊖_, asked, value, wide-cast}
 use Rattle.gbtf.specs.Difference.{gradient}
-use borrow.Author.Needs.{needs}
 use Rattle.gbtf.proofs.difference.gradient.Statement.{statement}
 use Rattle.gbtf.proofs.difference.gradient.Tie as tie
+use borrow.Author.Needs.{needs}
 
 abbrev across : tie.Start → E w64
 across c = widened w32 (c .args .before) (c .fits .before) (lit< tt) ⊖ widened w32 (c .args .after) (c .fits .after) (lit< tt)

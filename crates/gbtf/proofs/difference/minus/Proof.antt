@@ -3,9 +3,9 @@ use native.Mathlib.Omega.{arith}
 use mir.Syntax.{w32}
 use Rattle.whole.proofs.Pairs.{natₚ, _-ₚ_, differs}
 use Rattle.whole.proofs.Signed.{E, nat, _⊖_, asked, value}
-use borrow.Author.Needs.{needs}
 use Rattle.gbtf.proofs.difference.minus.Statement.{statement}
 use Rattle.gbtf.proofs.difference.minus.Tie as tie
+use borrow.Author.Needs.{needs}
 
 abbrev less : tie.Start → E w32
 less c = nat (c .args .a) 262140 (omega arith) ⊖ nat (c .args .b) 262140 (omega arith)

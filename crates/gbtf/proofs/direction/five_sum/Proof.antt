@@ -9,9 +9,9 @@ use mir.Syntax.{w32, w64}
 use mir.Val.{ofZ, toZ}
 use mir.ValLaws.{toZ-ofZ}
 use Rattle.whole.proofs.Signed.{E, int, _⊕_, asked, value}
-use borrow.Author.Needs.{needs}
 use Rattle.gbtf.proofs.direction.five_sum.Statement.{statement}
 use Rattle.gbtf.proofs.direction.five_sum.Tie as tie
+use borrow.Author.Needs.{needs}
 
 abbrev two : tie.After-weighted2 → E w64
 two c = int (c .before .before .weighted .result) 547608330240 (c .before .before .weighted .ensures .1) ⊕ int (c .weighted2 .result) 547608330240 (c .weighted2 .ensures .1)

@@ -3,9 +3,9 @@ use native.Mathlib.Omega.{arith}
 use lib.Dec.{lit<}
 use mir.Syntax.{w32, w64}
 use Rattle.whole.proofs.Signed.{E, nat, widened, _⊗_, asked, value, wide-cast, bounded}
-use borrow.Author.Needs.{needs}
 use Rattle.gbtf.proofs.direction.weighted.Statement.{statement}
 use Rattle.gbtf.proofs.direction.weighted.Tie as tie
+use borrow.Author.Needs.{needs}
 
 abbrev product : tie.Start → E w64
 product c = nat (c .args .weight) 255 (omega arith) ⊗ widened w32 (c .args .d) (c .fits .d) (lit< tt)

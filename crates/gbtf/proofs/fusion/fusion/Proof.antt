@@ -10,7 +10,7 @@ use mir.ValLaws.{toZ-ofZ}
 use Rattle.whole.specs.Floor.{floorDiv}
 use Rattle.whole.proofs.Signed.{read-result}
 use Rattle.gbtf.specs.Fusion.{fusion}
-use Rattle.gbtf.proofs.PixelLaws.{dividend-within}
+use Rattle.gbtf.proofs.MachineBounds.{dividend-within}
 use Rattle.gbtf.proofs.fusion.fusion.Statement.{statement}
 use Rattle.gbtf.proofs.fusion.fusion.Tie as tie
 
@@ -32,11 +32,11 @@ mul-ts c = omega (arith, small c)
 raised-requires : tie.Need-raised-requires
 raised-requires c κs = (omega (arith, ap natAbs (passed c)), omega (arith, small c))
 
-mul-floor : tie.Need-mul-floor
-mul-floor c = omega (arith, small (c .before))
+mul-floor-quotient : tie.Need-mul-floor-quotient
+mul-floor-quotient c = omega (arith, small (c .before))
 
-floor-requires : tie.Need-floor-requires
-floor-requires c κs =
+floor-quotient-requires : tie.Need-floor-quotient-requires
+floor-quotient-requires c κs =
     let a = c .before .args in
     let p = c .before .pre in
     (omega (arith, mul-pos (p .3) (p .0)), omega (arith, small (c .before)), omega arith, omega (arith, ap natAbs (dividend c), dividend-within (a .n) (a .s) (a .total) (p .2) (p .0) (p .3)))
@@ -45,7 +45,7 @@ returns : tie.Need-returns
 unfolding fusion
 returns c =
     let a = c .before .before .args in
-    read-result w32 _ (c .floor .ok) (c .floor .ensures) ∙ ap (λ z. floorDiv z (2 * (a .total * a .s))) (dividend (c .before))
+    read-result w32 _ (c .floor-quotient .ok) (c .floor-quotient .ensures) ∙ ap (λ z. floorDiv z (2 * (a .total * a .s))) (dividend (c .before))
 
 pub fusion-spec : {M : Type 1} → statement M
-fusion-spec = tie.close (tie.spec mul-ts raised-requires mul-floor floor-requires returns)
+fusion-spec = tie.close (tie.spec mul-ts raised-requires mul-floor-quotient floor-quotient-requires returns)

@@ -1,9 +1,9 @@
 -- `gbtf::fusion::raised` meets its contract. Assumes nothing.
 use mir.Syntax.{w64}
 use Rattle.whole.proofs.Signed.{E, lit, nat, int, _⊕_, _⊗_, asked, value}
-use borrow.Author.Needs.{needs}
 use Rattle.gbtf.proofs.fusion.raised.Statement.{statement}
 use Rattle.gbtf.proofs.fusion.raised.Tie as tie
+use borrow.Author.Needs.{needs}
 
 abbrev eight : tie.Start → E w64
 eight c = lit 8 ⊗ int (c .args .n) 1125899906842624 (c .pre .0)

@@ -2,10 +2,10 @@
 use native.Mathlib.Omega.{arith}
 use mathlib.Core.Path.{_∙_, ap}
 use Rattle.gbtf.specs.Fusion.{share}
-use Rattle.gbtf.proofs.PixelLaws.{share-le}
-use borrow.Author.Needs.{needs}
+use Rattle.gbtf.proofs.PixelBounds.{share-le}
 use Rattle.gbtf.proofs.fusion.share_of.Statement.{statement}
 use Rattle.gbtf.proofs.fusion.share_of.Tie as tie
+use borrow.Author.Needs.{needs}
 
 guard-requires : tie.Need-guard-requires
 guard-requires c κs = search needs

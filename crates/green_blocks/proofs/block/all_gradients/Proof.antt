@@ -7,9 +7,9 @@ use lib.IntN.{ℤ}
 use lib.ListN.{length, take, drop}
 use Rattle.lists.specs.Table.{table}
 use Rattle.lists.specs.Part.{part}
-use Rattle.green_rows.specs.Buffer.{gradientIn}
 use Rattle.lists.proofs.TableLaws.{length-table}
 use Rattle.lists.proofs.PartLaws.{put-rest}
+use Rattle.green_rows.specs.AlongAxis.{gradientIn}
 use Rattle.green_blocks.proofs.block.all_gradients.Statement.{statement}
 use Rattle.green_blocks.proofs.block.all_gradients.Tie as tie
 
@@ -96,7 +96,9 @@ returns c =
     let e₂ = c .before .before in
     let e₁ = e₂ .before .before .before .before .before in
     let a = e₁ .before .before .before .before .args in
-    whole (a .s) (a .m + 4 * a .s) (a .m + 2 * a .s - 2) (a .m + 2 * a .s - 0) (a .m + 2 * a .s) (a .m + 2 * a .s + a .s + (a .m + 6 * a .s) - (a .m + 2 * a .s + a .s)) (a .m + 6 * a .s) (a .m + 2 * a .s + a .s) (a .m + 3 * a .s) (a .d .now) _ (omega arith) (omega arith) (omega arith) (omega arith) (omega arith) (e₁ .gradients .ensures) (e₂ .gradients2 .ensures)
+    whole (a .s) (a .m + 4 * a .s) (a .m + 2 * a .s - 2) (a .m + 2 * a .s - 0) (a .m + 2 * a .s)
+    (a .m + 2 * a .s + a .s + (a .m + 6 * a .s) - (a .m + 2 * a .s + a .s)) (a .m + 6 * a .s) (a .m + 2 * a .s + a .s) (a .m + 3 * a .s) (a .d .now) _
+    (omega arith) (omega arith) (omega arith) (omega arith) (omega arith) (e₁ .gradients .ensures) (e₂ .gradients2 .ensures)
 
 pub all-gradients-spec : {M : Type 1} → statement M
 all-gradients-spec =

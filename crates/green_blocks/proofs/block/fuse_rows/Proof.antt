@@ -6,22 +6,23 @@ use mathlib.Core.List.{List}
 use mathlib.Core.Path.{_≡_, refl, _∙_}
 use lib.IntN.{ℤ, pos, natAbs}
 use lib.ListN.{length, take, drop}
-use Rattle.gbtf.specs.Weights.{scale, evenWeights}
 use Rattle.lists.specs.Table.{table}
-use Rattle.green_rows.specs.Buffer.{greenIn}
-use Rattle.green_blocks.specs.Block.{greenRowIn}
 use Rattle.lists.proofs.TableLaws.{length-table}
 use Rattle.lists.proofs.JoinedLaws.{part-within, Handed, joined-none, joined-turn, joined-done}
 use Rattle.lists.proofs.PartLaws.{part-length, row-is}
 use Rattle.lists.proofs.BoundLaws.{all-part}
+use Rattle.gbtf.specs.Bounds.{mostDifference, mostGradient}
+use Rattle.gbtf.specs.Weights.{scale}
+use Rattle.green_rows.specs.GreenIn.{greenIn}
+use Rattle.green_blocks.specs.Block.{greenRowIn}
 use Rattle.green_blocks.proofs.block.fuse_rows.Statement.{statement}
 use Rattle.green_blocks.proofs.block.fuse_rows.Tie as tie
 
-abbrev rows : (x : List ℕ) (w s odd : ℕ) (dh dv : List ℤ) (gh gv : List ℕ) (i : ℕ) → List ℕ
-rows x w s odd dh dv gh gv = greenRowIn scale evenWeights w s odd x dh dv gh gv
+abbrev rows : (ws x : List ℕ) (w s odd : ℕ) (dh dv : List ℤ) (gh gv : List ℕ) (i : ℕ) → List ℕ
+rows ws x w s odd dh dv gh gv = greenRowIn scale ws w s odd x dh dv gh gv
 
-row-length : (x : List ℕ) (w s odd : ℕ) (dh dv : List ℤ) (gh gv : List ℕ) (i : ℕ) → length (rows x w s odd dh dv gh gv i) ≡ w
-row-length x w s odd dh dv gh gv i = length-table _ w
+row-length : (ws x : List ℕ) (w s odd : ℕ) (dh dv : List ℤ) (gh gv : List ℕ) (i : ℕ) → length (rows ws x w s odd dh dv gh gv i) ≡ w
+row-length ws x w s odd dh dv gh gv i = length-table _ w
 
 -- the gradients along the rows lack two at the end
 short : (n m s w : ℕ) → w + 14 ≤ s → n + s ≤ m → n + (3 * s - 2) ≤ m + 2 * s - 2
@@ -31,51 +32,55 @@ three : (s w : ℕ) → w + 14 ≤ s → 3 * s - 2 + 2 ≡ 3 * s
 three s w h = omega arith
 
 -- what row i is handed
-row-same : (x : List ℕ) (dh dv : List ℤ) (gh gv : List ℕ) (w s odd i : ℕ) {n o : ℕ} → n ≡ w → o ≡ (odd + i) % 2
-    → table (greenIn scale evenWeights s o (take (i * w + w - i * w) (drop (i * w) x)) (take (i * s + 3 * s - i * s) (drop (i * s) dh)) (take (i * s + 9 * s - i * s) (drop (i * s) dv)) (take (i * s + (3 * s - 2) - i * s) (drop (i * s) gh)) (take (i * s + 5 * s - i * s) (drop (i * s) gv))) n
-    ≡ rows x w s odd dh dv gh gv i
-row-same x dh dv gh gv w s odd i e h = rw (e, h, row-is w i x refl, add-sub-cancel-left (i * s) (3 * s), add-sub-cancel-left (i * s) (9 * s), add-sub-cancel-left (i * s) (3 * s - 2), add-sub-cancel-left (i * s) (5 * s))
+row-same : (ws x : List ℕ) (dh dv : List ℤ) (gh gv : List ℕ) (w s odd i : ℕ) {n o : ℕ} → n ≡ w → o ≡ (odd + i) % 2
+    → table (greenIn scale ws s o (take (i * w + w - i * w) (drop (i * w) x))
+    (take (i * s + 3 * s - i * s) (drop (i * s) dh)) (take (i * s + 9 * s - i * s) (drop (i * s) dv)) (take (i * s + (3 * s - 2) - i * s) (drop (i * s) gh)) (take (i * s + 5 * s - i * s) (drop (i * s) gv))) n
+    ≡ rows ws x w s odd dh dv gh gv i
+row-same ws x dh dv gh gv w s odd i e h = rw (e, h, row-is w i x refl, add-sub-cancel-left (i * s) (3 * s), add-sub-cancel-left (i * s) (9 * s), add-sub-cancel-left (i * s) (3 * s - 2), add-sub-cancel-left (i * s) (5 * s))
 
 abbrev Inv-loop : tie.InvT-loop
-Inv-loop x w b s odd dh dv gh gv t₀ f₀ out₀ i₀ t f out i =
-    (i ≤ b) × (Handed (rows x w s odd dh dv gh gv) w (row-length x w s odd dh dv gh gv) i out₀ out) × (length t ≡ length t₀) × (length f ≡ length f₀)
+Inv-loop ws x w b s odd dh dv gh gv t₀ f₀ out₀ i₀ t f out i =
+    (i ≤ b) × (Handed (rows ws x w s odd dh dv gh gv) w (row-length ws x w s odd dh dv gh gv) i out₀ out) × (length t ≡ length t₀) × (length f ≡ length f₀)
 
 abbrev μ-loop : tie.MeasureT-loop
-μ-loop x w b s odd dh dv gh gv t₀ f₀ out₀ i₀ t f out i = b - i
+μ-loop ws x w b s odd dh dv gh gv t₀ f₀ out₀ i₀ t f out i = b - i
 
 loop-holds : tie.Need-loop-holds Inv-loop μ-loop
-loop-holds c = (omega arith, (joined-none _ _ (row-length _ _ _ _ _ _ _ _) _, refl), refl, refl)
+loop-holds c = (omega arith, (joined-none _ _ (row-length _ _ _ _ _ _ _ _ _) _, refl), refl, refl)
 
--- row i lies in x and in out, and its places in the other buffers
-writes : (c : tie.In-loop Inv-loop μ-loop) → let a = c .before .before .before .before .before .before .before .args in c .before .loop .i * a .w + a .w ≤ a .b * a .w
-writes c = part-within (c .before .before .before .before .before .before .before .args .w) (c .loop-test .taken)
+-- the entry, and the loop's test
+abbrev start : tie.In-loop Inv-loop μ-loop → tie.Start Inv-loop μ-loop
+start c = c .before .before .before .before .before .before .before
 
-places : (c : tie.In-loop Inv-loop μ-loop) → let a = c .before .before .before .before .before .before .before .args in c .before .loop .i * a .s + a .s ≤ a .b * a .s
-places c = part-within (c .before .before .before .before .before .before .before .args .s) (c .loop-test .taken)
+abbrev test : tie.After-fuse-arg8 Inv-loop μ-loop → tie.In-loop Inv-loop μ-loop
+test c = c .before .before .before .before .before .before .before .before
 
-few : (c : tie.In-loop Inv-loop μ-loop) → let a = c .before .before .before .before .before .before .before .args in a .b * a .s ≤ 4 * a .s
-few c = mul-le-mul-right _ (c .before .before .before .before .before .before .before .pre .0 .6)
+-- row i lies in x and in out, and its places, which are few, in the other buffers
+inside : (c : tie.In-loop Inv-loop μ-loop) → let a = start c .args in let i = c .before .loop .i in (i * a .w + a .w ≤ a .b * a .w) × (i * a .s + a .s ≤ a .b * a .s) × (a .b * a .s ≤ 4 * a .s)
+inside c =
+    let a = start c .args in
+    (part-within (a .w) (c .loop-test .taken), part-within (a .s) (c .loop-test .taken), mul-le-mul-right _ (start c .pre .0 .6))
 
 mul-at : tie.Need-mul-at Inv-loop μ-loop
-mul-at c = omega (arith, writes c, places c, few c)
+mul-at c = omega (arith, inside c)
 
 add-end : tie.Need-add-end Inv-loop μ-loop
-add-end c = omega (arith, writes c, places c, few c)
+add-end c = omega (arith, inside c)
 
 mul-o : tie.Need-mul-o Inv-loop μ-loop
-mul-o c = omega (arith, writes c, places c, few c)
+mul-o c = omega (arith, inside c)
 
 mul-dh-end : tie.Need-mul-dh-end Inv-loop μ-loop
-mul-dh-end c = omega (arith, writes c, places c, few c)
+mul-dh-end c = omega (arith, inside c)
 
 add-dh-end : tie.Need-add-dh-end Inv-loop μ-loop
-add-dh-end c = omega (arith, writes c, places c, few c)
+add-dh-end c = omega (arith, inside c)
 
 mul-dv-end : tie.Need-mul-dv-end Inv-loop μ-loop
-mul-dv-end c = omega (arith, writes c, places c, few c)
+mul-dv-end c = omega (arith, inside c)
 
 add-dv-end : tie.Need-add-dv-end Inv-loop μ-loop
-add-dv-end c = omega (arith, writes c, places c, few c)
+add-dv-end c = omega (arith, inside c)
 
 mul-gh-end : tie.Need-mul-gh-end Inv-loop μ-loop
 mul-gh-end c = omega arith
@@ -84,16 +89,16 @@ sub-gh-end : tie.Need-sub-gh-end Inv-loop μ-loop
 sub-gh-end c = omega arith
 
 add-gh-end : tie.Need-add-gh-end Inv-loop μ-loop
-add-gh-end c = omega (arith, places c, few c)
+add-gh-end c = omega (arith, inside c)
 
 mul-gv-end : tie.Need-mul-gv-end Inv-loop μ-loop
-mul-gv-end c = omega (arith, writes c, places c, few c)
+mul-gv-end c = omega (arith, inside c)
 
 add-gv-end : tie.Need-add-gv-end Inv-loop μ-loop
-add-gv-end c = omega (arith, writes c, places c, few c)
+add-gv-end c = omega (arith, inside c)
 
 mul-fuse : tie.Need-mul-fuse Inv-loop μ-loop
-mul-fuse c = omega (arith, writes c, places c, few c)
+mul-fuse c = omega (arith, inside c)
 
 sub-fuse : tie.Need-sub-fuse Inv-loop μ-loop
 sub-fuse c = omega arith
@@ -102,13 +107,13 @@ part-fuse-start : tie.Need-part-fuse-start Inv-loop μ-loop
 part-fuse-start c = omega arith
 
 part-fuse-end : tie.Need-part-fuse-end Inv-loop μ-loop
-part-fuse-end c = omega (arith, writes c, places c, few c)
+part-fuse-end c = omega (arith, inside c)
 
 add-fuse : tie.Need-add-fuse Inv-loop μ-loop
 add-fuse c = omega arith
 
 mul-fuse-2 : tie.Need-mul-fuse-2 Inv-loop μ-loop
-mul-fuse-2 c = omega (arith, writes (c .before), places (c .before), few (c .before))
+mul-fuse-2 c = omega (arith, inside (c .before))
 
 sub-fuse-2 : tie.Need-sub-fuse-2 Inv-loop μ-loop
 sub-fuse-2 c = omega arith
@@ -117,10 +122,10 @@ part-fuse-start-2 : tie.Need-part-fuse-start-2 Inv-loop μ-loop
 part-fuse-start-2 c = omega arith
 
 part-fuse-end-2 : tie.Need-part-fuse-end-2 Inv-loop μ-loop
-part-fuse-end-2 c = omega (arith, writes (c .before), places (c .before), few (c .before))
+part-fuse-end-2 c = omega (arith, inside (c .before))
 
 mul-fuse-3 : tie.Need-mul-fuse-3 Inv-loop μ-loop
-mul-fuse-3 c = omega (arith, writes (c .before .before), places (c .before .before), few (c .before .before))
+mul-fuse-3 c = omega (arith, inside (c .before .before))
 
 sub-fuse-3 : tie.Need-sub-fuse-3 Inv-loop μ-loop
 sub-fuse-3 c = omega arith
@@ -129,10 +134,10 @@ part-fuse-start-3 : tie.Need-part-fuse-start-3 Inv-loop μ-loop
 part-fuse-start-3 c = omega arith
 
 part-fuse-end-3 : tie.Need-part-fuse-end-3 Inv-loop μ-loop
-part-fuse-end-3 c = omega (arith, writes (c .before .before), places (c .before .before), few (c .before .before))
+part-fuse-end-3 c = omega (arith, inside (c .before .before))
 
 mul-fuse-4 : tie.Need-mul-fuse-4 Inv-loop μ-loop
-mul-fuse-4 c = omega (arith, writes (c .before .before .before), places (c .before .before .before), few (c .before .before .before))
+mul-fuse-4 c = omega (arith, inside (c .before .before .before))
 
 sub-fuse-4 : tie.Need-sub-fuse-4 Inv-loop μ-loop
 sub-fuse-4 c = omega arith
@@ -141,10 +146,10 @@ part-fuse-start-4 : tie.Need-part-fuse-start-4 Inv-loop μ-loop
 part-fuse-start-4 c = omega arith
 
 part-fuse-end-4 : tie.Need-part-fuse-end-4 Inv-loop μ-loop
-part-fuse-end-4 c = omega (arith, writes (c .before .before .before), places (c .before .before .before), few (c .before .before .before))
+part-fuse-end-4 c = omega (arith, inside (c .before .before .before))
 
 mul-fuse-5 : tie.Need-mul-fuse-5 Inv-loop μ-loop
-mul-fuse-5 c = omega (arith, writes (c .before .before .before .before), places (c .before .before .before .before), few (c .before .before .before .before))
+mul-fuse-5 c = omega (arith, inside (c .before .before .before .before))
 
 sub-fuse-5 : tie.Need-sub-fuse-5 Inv-loop μ-loop
 sub-fuse-5 c = omega arith
@@ -153,10 +158,10 @@ part-fuse-start-5 : tie.Need-part-fuse-start-5 Inv-loop μ-loop
 part-fuse-start-5 c = omega arith
 
 part-fuse-end-5 : tie.Need-part-fuse-end-5 Inv-loop μ-loop
-part-fuse-end-5 c = omega (arith, writes (c .before .before .before .before), places (c .before .before .before .before), few (c .before .before .before .before))
+part-fuse-end-5 c = omega (arith, inside (c .before .before .before .before))
 
 mul-fuse-6 : tie.Need-mul-fuse-6 Inv-loop μ-loop
-mul-fuse-6 c = omega (arith, writes (c .before .before .before .before .before .before .before), places (c .before .before .before .before .before .before .before), few (c .before .before .before .before .before .before .before))
+mul-fuse-6 c = omega (arith, inside (c .before .before .before .before .before .before .before))
 
 sub-fuse-6 : tie.Need-sub-fuse-6 Inv-loop μ-loop
 sub-fuse-6 c = omega arith
@@ -165,24 +170,24 @@ part-fuse-start-6 : tie.Need-part-fuse-start-6 Inv-loop μ-loop
 part-fuse-start-6 c = omega arith
 
 part-fuse-end-6 : tie.Need-part-fuse-end-6 Inv-loop μ-loop
-part-fuse-end-6 c = omega (arith, writes (c .before .before .before .before .before .before .before), places (c .before .before .before .before .before .before .before), few (c .before .before .before .before .before .before .before))
+part-fuse-end-6 c = omega (arith, inside (c .before .before .before .before .before .before .before))
 
 fuse-requires : tie.Need-fuse-requires Inv-loop μ-loop
 fuse-requires c κs =
-    let k = c .before .before .before .before .before .before .before .before in
+    let k = test c in
     let l = k .before .loop in
-    let q = k .before .before .before .before .before .before .before in
+    let q = start k in
     let a = q .args in
-    let P : ℤ → Type 0 = λ d. natAbs d ≤ 16380 in
-    let N : ℕ → Type 0 = λ g. g ≤ 32760 in
-    let lx = part-length (l .i * a .w) (a .w) (a .x .now) (omega (arith, writes k)) in
-    let lo = part-length (l .i * a .w) (a .w) (l .out) (omega (arith, writes k)) in
-    let l₁ = part-length (l .i * a .s) (3 * a .s) (a .dh .now) (omega (arith, places k)) in
-    let l₂ = part-length (l .i * a .s) (9 * a .s) (a .dv .now) (omega (arith, places k)) in
-    let l₃ = part-length (l .i * a .s) (3 * a .s - 2) (a .gh .now) (rw (q .pre .1 .0 .2) (short (l .i * a .s) (a .b * a .s) (a .s) (a .w) (q .pre .0 .4) (places k))) in
-    let l₄ = part-length (l .i * a .s) (5 * a .s) (a .gv .now) (omega (arith, places k)) in
+    let P : ℤ → Type 0 = λ d. natAbs d ≤ mostDifference in
+    let N : ℕ → Type 0 = λ g. g ≤ mostGradient in
+    let lx = part-length (l .i * a .w) (a .w) (a .x .now) (omega (arith, inside k .0)) in
+    let lo = part-length (l .i * a .w) (a .w) (l .out) (omega (arith, inside k .0)) in
+    let l₁ = part-length (l .i * a .s) (3 * a .s) (a .dh .now) (omega (arith, inside k .1)) in
+    let l₂ = part-length (l .i * a .s) (9 * a .s) (a .dv .now) (omega (arith, inside k .1)) in
+    let l₃ = part-length (l .i * a .s) (3 * a .s - 2) (a .gh .now) (rw (q .pre .1 .0 .2) (short (l .i * a .s) (a .b * a .s) (a .s) (a .w) (q .pre .0 .4) (inside k .1))) in
+    let l₄ = part-length (l .i * a .s) (5 * a .s) (a .gv .now) (omega (arith, inside k .1)) in
     rw (lx, lo, l₁, l₂, l₃, l₄) (
-      (omega arith, all-part (λ n. n ≤ 4095) 0 (omega arith) (l .i * a .w) (l .i * a .w + a .w - l .i * a .w) (a .x .now) (q .pre .0 .1), refl),
+      (omega arith, all-part (λ n. n ≤ 4095) 0 (omega arith) (l .i * a .w) (l .i * a .w + a .w - l .i * a .w) (a .x .now) (q .pre .0 .1), refl, q .pre .0 .7, q .pre .0 .8),
       (
         (q .pre .0 .4, omega arith, refl, refl, three (a .s) (a .w) (q .pre .0 .4), refl),
         (
@@ -206,14 +211,14 @@ loop-less c = omega arith
 loop-again : tie.Need-loop-again Inv-loop μ-loop
 loop-again c =
     let r = c .before .before .before .before .before in
-    let k = r .before .before .before .before .before .before .before .before .before in
+    let k = test (r .before) in
     let l = k .before .loop in
-    let q = k .before .before .before .before .before .before .before in
+    let q = start k in
     let a = q .args in
-    let z = r .fuse .kept .1 .1 .1 .1 .1 .1 .1 in (
+    let z = r .fuse .kept .1 .1 .1 .1 .1 .1 .1 .1 in (
       omega arith,
-      joined-turn _ _ (row-length (a .x .now) (a .w) (a .s) (a .odd) (a .dh .now) (a .dv .now) (a .gh .now) (a .gv .now)) (l .i) (a .b) (a .out .now) (k .loop-test .taken) (q .pre .0 .3) (l .inv .1)
-          (r .fuse .ensures ∙ row-same (a .x .now) (a .dh .now) (a .dv .now) (a .gh .now) (a .gv .now) (a .w) (a .s) (a .odd) (l .i) (part-length (l .i * a .w) (a .w) (l .out) (omega (arith, writes k))) (omega arith)),
+      joined-turn _ _ (row-length (a .weights) (a .x .now) (a .w) (a .s) (a .odd) (a .dh .now) (a .dv .now) (a .gh .now) (a .gv .now)) (l .i) (a .b) (a .out .now) (k .loop-test .taken) (q .pre .0 .3) (l .inv .1)
+          (r .fuse .ensures ∙ row-same (a .weights) (a .x .now) (a .dh .now) (a .dv .now) (a .gh .now) (a .gv .now) (a .w) (a .s) (a .odd) (l .i) (part-length (l .i * a .w) (a .w) (l .out) (omega (arith, inside k .0))) (omega arith)),
       z .0 ∙ l .inv .2,
       z .1 .0 ∙ l .inv .3,
     )
@@ -232,7 +237,7 @@ returns c =
     let l = c .before .loop in
     let q = c .before .before .before .before .before .before .before in
     let a = q .args in
-    l .inv .1 .0 ∙ joined-done _ _ (row-length (a .x .now) (a .w) (a .s) (a .odd) (a .dh .now) (a .dv .now) (a .gh .now) (a .gv .now)) (l .i) (a .b) _ (l .inv .0) (c .loop-test .left) (q .pre .0 .3)
+    l .inv .1 .0 ∙ joined-done _ _ (row-length (a .weights) (a .x .now) (a .w) (a .s) (a .odd) (a .dh .now) (a .dv .now) (a .gh .now) (a .gv .now)) (l .i) (a .b) _ (l .inv .0) (c .loop-test .left) (q .pre .0 .3)
 
 pub fuse-rows-spec : {M : Type 1} → statement M
 fuse-rows-spec =

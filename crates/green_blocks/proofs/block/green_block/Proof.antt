@@ -1,9 +1,13 @@
 -- `green_blocks::block::green_block` meets its contract: what its calls leave is what `fuse_rows` is handed, and green is worked out from that. Assumes nothing.
-use Prim.Native.Nat.{_*_, _≤_}
+use Prim.Native.Nat.{_+_, _-_, _*_, _≤_}
 use native.Mathlib.Nat.{mul-le-mul}
 use native.Mathlib.Omega.{arith}
+use lib.Dec.{lit≤}
+use lib.ListN.{length}
 use Rattle.bayer.proofs.ParityLaws.{starts-below}
-use Rattle.green_blocks.proofs.GreenBlock.{Block, gradients-length, block-start, block-end, block-fused, ready}
+use Rattle.gbtf.specs.Weights.{scale, evenWeights}
+use Rattle.green_rule.specs.Greens.{greens}
+use Rattle.green_blocks.proofs.GreenBlock.{BlockBuffers, gradients-length, block-start, block-end, block-fused, ready}
 use Rattle.green_blocks.proofs.block.green_block.Statement.{statement}
 use Rattle.green_blocks.proofs.block.green_block.Tie as tie
 
@@ -13,6 +17,16 @@ narrow q = omega (arith, q .pre .0 .0 0 (q .pre .0 .1) .narrow)
 -- the places of the block's rows
 size : (q : tie.Start) → q .args .b * q .args .s ≤ 16444
 size q = mul-le-mul (q .pre .0 .2) (narrow q)
+
+-- the entry, and what each call comes after
+abbrev entry : tie.After-starts-green → tie.Start
+entry c = c .before .before .before .before .before .before
+
+abbrev started : tie.After-fetch → tie.After-starts-green
+started c = c .before .before
+
+abbrev fetched : tie.After-all-differences → tie.After-fetch
+fetched c = c .before .before .before .before .before
 
 starts-green-requires : tie.Need-starts-green-requires
 starts-green-requires c κs = omega arith
@@ -28,12 +42,12 @@ fetch-requires c κs =
 all-differences-requires : tie.Need-all-differences-requires
 all-differences-requires c κs =
     let g = c .before .before .before .before .before .before in
-    let q = g .before .before .before .before .before .before in
+    let q = entry g in
     omega (arith, g .starts-green .ensures, starts-below (q .args .frame .layout) (q .args .v), narrow q, size q)
 
 all-gradients-requires : tie.Need-all-gradients-requires
 all-gradients-requires c κs =
-    let q = c .before .before .before .before .before .before .before .before .before .before .before .before .before .before .before .before in
+    let q = entry (started (fetched (c .before .before .before))) in
     omega (arith, narrow q, size q)
 
 -- what is known when the gradients are there
@@ -45,18 +59,18 @@ module _ (c : tie.After-slice-known6) where
   c₂ = c₃ .before .before .before .before
 
   abbrev c₁ : tie.After-fetch
-  c₁ = c₂ .before .before .before .before .before
+  c₁ = fetched c₂
 
   abbrev c₀ : tie.After-starts-green
-  c₀ = c₁ .before .before
+  c₀ = started c₁
 
   abbrev start : tie.Start
-  start = c₀ .before .before .before .before .before .before
+  start = entry c₀
 
-  given :
+  buffers :
       let a = start .args in
-      Block (a .frame) (a .start) (a .piece .now) (a .v) (a .b) (a .s) (c₀ .starts-green .result) (c₁ .fetch .last .1 .1 .1 .1 .1 .1 .0) (c₂ .all-differences .last .1 .1 .1 .1 .0) (c₃ .all-gradients .last .1 .1 .1 .0)
-  given = record {
+      BlockBuffers (a .frame) (a .start) (a .piece .now) (a .v) (a .b) (a .s) (c₀ .starts-green .result) (c₁ .fetch .last .1 .1 .1 .1 .1 .1 .0) (c₂ .all-differences .last .1 .1 .1 .1 .0) (c₃ .all-gradients .last .1 .1 .1 .0)
+  buffers = record {
     lent = start .pre .0 .0;
     some = start .pre .0 .1;
     few = start .pre .0 .2;
@@ -65,34 +79,42 @@ module _ (c : tie.After-slice-known6) where
     wide = start .pre .1 .0 .1;
     narrow = start .pre .1 .0 .2;
     starts = c₀ .starts-green .ensures;
-    readings = c₁ .fetch .ensures;
-    differences = c₂ .all-differences .ensures;
-    gradients = c₃ .all-gradients .ensures;
+    x-is = c₁ .fetch .ensures;
+    d-is = c₂ .all-differences .ensures;
+    g-is = c₃ .all-gradients .ensures;
   }
 
+  sizes :
+      let a = start .args in
+      ((a .v - a .start) * a .frame .width + a .b * a .frame .width ≤ length (a .piece .now)) × (a .b * a .s ≤ 16444) × (a .s ≤ 4111)
+  sizes = (block-end buffers, size start, narrow start)
+
+abbrev filled : tie.After-fuse-rows-arg4 → tie.After-slice-known6
+filled c = c .before .before .before .before .before .before
+
 sub-at : tie.Need-sub-at
-sub-at c = block-start (given c)
+sub-at c = block-start (buffers c)
 
 mul-at : tie.Need-mul-at
-mul-at c = omega (arith, block-end (given c), size (start c), narrow (start c))
+mul-at c = omega (arith, sizes c)
 
 mul-end : tie.Need-mul-end
-mul-end c = omega (arith, block-end (given c), size (start c), narrow (start c))
+mul-end c = omega (arith, sizes c)
 
 add-end : tie.Need-add-end
-add-end c = omega (arith, block-end (given c), size (start c), narrow (start c))
+add-end c = omega (arith, sizes c)
 
 mul-dh-len : tie.Need-mul-dh-len
-mul-dh-len c = omega (arith, block-end (given c), size (start c), narrow (start c))
+mul-dh-len c = omega (arith, sizes c)
 
 add-dh-len : tie.Need-add-dh-len
-add-dh-len c = omega (arith, block-end (given c), size (start c), narrow (start c))
+add-dh-len c = omega (arith, sizes c)
 
 sub-gh-len : tie.Need-sub-gh-len
 sub-gh-len c = omega arith
 
 mul-fuse-rows : tie.Need-mul-fuse-rows
-mul-fuse-rows c = omega (arith, block-end (given c), size (start c), narrow (start c))
+mul-fuse-rows c = omega (arith, sizes c)
 
 sub-fuse-rows : tie.Need-sub-fuse-rows
 sub-fuse-rows c = omega arith
@@ -101,7 +123,7 @@ part-fuse-rows-start : tie.Need-part-fuse-rows-start
 part-fuse-rows-start c = omega arith
 
 part-fuse-rows-end : tie.Need-part-fuse-rows-end
-part-fuse-rows-end c = omega (arith, block-end (given c), size (start c), narrow (start c))
+part-fuse-rows-end c = omega (arith, sizes c)
 
 sub-fuse-rows-2 : tie.Need-sub-fuse-rows-2
 sub-fuse-rows-2 c = omega arith
@@ -113,7 +135,7 @@ part-fuse-rows-end-2 : tie.Need-part-fuse-rows-end-2
 part-fuse-rows-end-2 c = omega arith
 
 mul-fuse-rows-2 : tie.Need-mul-fuse-rows-2
-mul-fuse-rows-2 c = omega (arith, block-end (given (c .before .before .before)), size (start (c .before .before .before)), narrow (start (c .before .before .before)))
+mul-fuse-rows-2 c = omega (arith, sizes (c .before .before .before))
 
 sub-fuse-rows-3 : tie.Need-sub-fuse-rows-3
 sub-fuse-rows-3 c = omega arith
@@ -131,25 +153,25 @@ part-fuse-rows-start-4 : tie.Need-part-fuse-rows-start-4
 part-fuse-rows-start-4 c = omega arith
 
 part-fuse-rows-end-4 : tie.Need-part-fuse-rows-end-4
-part-fuse-rows-end-4 c = omega (arith, gradients-length (given (c .before .before .before .before .before)))
+part-fuse-rows-end-4 c = omega (arith, gradients-length (buffers (c .before .before .before .before .before)))
 
 mul-fuse-rows-3 : tie.Need-mul-fuse-rows-3
-mul-fuse-rows-3 c = omega (arith, block-end (given (c .before .before .before .before .before .before)), size (start (c .before .before .before .before .before .before)), narrow (start (c .before .before .before .before .before .before)))
+mul-fuse-rows-3 c = omega (arith, sizes (filled c))
 
 sub-fuse-rows-5 : tie.Need-sub-fuse-rows-5
-sub-fuse-rows-5 c = omega (arith, gradients-length (given (c .before .before .before .before .before .before)))
+sub-fuse-rows-5 c = omega (arith, gradients-length (buffers (filled c)))
 
 part-fuse-rows-start-5 : tie.Need-part-fuse-rows-start-5
-part-fuse-rows-start-5 c = omega (arith, gradients-length (given (c .before .before .before .before .before .before)))
+part-fuse-rows-start-5 c = omega (arith, gradients-length (buffers (filled c)))
 
 part-fuse-rows-end-5 : tie.Need-part-fuse-rows-end-5
 part-fuse-rows-end-5 c = omega arith
 
 fuse-rows-requires : tie.Need-fuse-rows-requires
 fuse-rows-requires c κs =
-    let k = c .before .before .before .before .before .before .before .before .before .before in
-    let h = start k .pre .1 .1 in
-    ready (given k) (start k .pre .0 .4) (start k .args .out .now) (start k .args .t .now) (start k .args .f .now) (h .5) (h .3) (h .4)
+    let k = filled (c .before .before .before .before) in
+    let h = start k .pre .1 .0 in
+    ready (buffers k) (start k .pre .0 .4) evenWeights (lit≤ tt) (lit≤ tt) (start k .args .out .now) (start k .args .t .now) (start k .args .f .now) (h .5) (h .3) (h .4)
 
 same-length : tie.Need-same-length
 same-length c = omega arith
@@ -170,9 +192,10 @@ same-length-6 : tie.Need-same-length-6
 same-length-6 c = omega arith
 
 returns : tie.Need-returns
+unfolding greens
 returns c =
-    let k = c .before .before .before .before .before .before .before .before .before .before .before .before .before .before .before .before in
-    block-fused (given k) (c .before .before .before .before .before .fuse-rows .ensures)
+    let r = c .before .before .before .before .before in
+    block-fused (buffers (filled (r .before .before .before .before .before))) scale evenWeights (r .fuse-rows .ensures)
 
 pub green-block-spec : {M : Type 1} → statement M
 green-block-spec =

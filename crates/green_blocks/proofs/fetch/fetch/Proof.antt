@@ -7,14 +7,14 @@ use mathlib.Core.List.{List}
 use mathlib.Core.Path.{_≡_, refl, ap, ap₂, _∙_}
 use lib.IntN.{subℕ}
 use lib.ListN.{length}
-use Rattle.bayer.specs.Mirror.{mirror}
 use Rattle.lists.specs.Part.{rowOf}
 use Rattle.lists.specs.Table.{table}
-use Rattle.green_rows.specs.Extended.{column}
 use Rattle.lists.proofs.TableLaws.{length-table}
 use Rattle.lists.proofs.JoinedLaws.{part-within, Handed, joined-none, joined-turn, joined-done}
 use Rattle.lists.proofs.PartLaws.{part-length, row-is}
-use Rattle.green_blocks.proofs.LentLaws.{lent-start, lent-end}
+use Rattle.bayer.specs.Mirror.{mirror}
+use Rattle.green_rows.specs.Extended.{column}
+use Rattle.green_blocks.proofs.BlockLent.{lent-start, lent-end}
 use Rattle.green_blocks.proofs.fetch.fetch.Statement.{statement}
 use Rattle.green_blocks.proofs.fetch.fetch.Tie as tie
 

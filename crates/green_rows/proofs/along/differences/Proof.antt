@@ -5,8 +5,8 @@ use mathlib.Core.Path.{refl, _∙_}
 use lib.ListN.{length}
 use mir.Syntax.{w32}
 use Rattle.whole.proofs.Signed.{read-result}
-use Rattle.green_rows.specs.Buffer.{differenceIn}
 use Rattle.lists.proofs.TableLaws.{Filled, table-none, table-turn, table-done}
+use Rattle.green_rows.specs.AlongAxis.{differenceIn}
 use Rattle.green_rows.proofs.along.differences.Statement.{statement}
 use Rattle.green_rows.proofs.along.differences.Tie as tie
 

@@ -3,9 +3,9 @@ use Prim.Native.Nat.{_+_, _-_, _*_, _≤_}
 use native.Mathlib.Omega.{arith}
 use mathlib.Core.Path.{refl, ap₂, _∙_}
 use lib.ListN.{length}
-use Rattle.gbtf.specs.Difference.{gradient}
-use Rattle.green_rows.specs.Buffer.{gradientIn}
 use Rattle.lists.proofs.TableLaws.{Filled, table-none, table-turn, table-done}
+use Rattle.gbtf.specs.Difference.{gradient}
+use Rattle.green_rows.specs.AlongAxis.{gradientIn}
 use Rattle.green_rows.proofs.ReadLaws.{read-at}
 use Rattle.green_rows.proofs.along.gradients.Statement.{statement}
 use Rattle.green_rows.proofs.along.gradients.Tie as tie

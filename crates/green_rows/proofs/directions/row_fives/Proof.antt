@@ -1,20 +1,18 @@
 -- `green_rows::directions::row_fives` meets its contract: each call fills one of the four parts. Assumes nothing.
 use native.Mathlib.Omega.{arith}
 use mathlib.Core.Path.{_≡_}
-use lib.Dec.{lit≤}
-use Rattle.gbtf.specs.Weights.{evenWeights}
-use Rattle.green_rows.specs.Directions.{fiveIn, reversed}
 use Rattle.lists.proofs.JoinedLaws.{four-parts}
+use Rattle.green_rows.specs.Directions.{fiveIn, reversed}
 use Rattle.green_rows.proofs.DirectionLaws.{five-after, five-before}
-use borrow.Author.Needs.{needs}
 use Rattle.green_rows.proofs.directions.row_fives.Statement.{statement}
 use Rattle.green_rows.proofs.directions.row_fives.Tie as tie
+use borrow.Author.Needs.{needs}
 
 -- before each call
 abbrev start : tie.After-fives → tie.Start
 start c = c .before .before .before
 
-abbrev back : (c : tie.After-fives) → c .before .before .reversed .result ≡ reversed evenWeights
+abbrev back : (c : tie.After-fives) → c .before .before .reversed .result ≡ reversed (start c .args .weights)
 back c = c .before .before .reversed .ensures
 
 abbrev c₁ : tie.After-fives2 → tie.After-fives
@@ -69,7 +67,7 @@ part-fives-end-2 : tie.Need-part-fives-end-2
 part-fives-end-2 c = search needs
 
 fives-requires-2 : tie.Need-fives-requires-2
-fives-requires-2 c κs = let e = c .before .before in (omega arith, start e .pre .1 .0, rw (back e) (lit≤ tt))
+fives-requires-2 c κs = let e = c .before .before in (omega arith, start e .pre .1 .0, rw (back e) (omega (arith, start e .pre .1 .2)))
 
 mul-fives-2 : tie.Need-mul-fives-2
 mul-fives-2 c = search needs
@@ -84,7 +82,7 @@ part-fives-end-3 : tie.Need-part-fives-end-3
 part-fives-end-3 c = search needs
 
 fives-requires-3 : tie.Need-fives-requires-3
-fives-requires-3 c κs = let e = c₁ (c .before .before) in (omega arith, start e .pre .1 .1, rw (back e) (lit≤ tt))
+fives-requires-3 c κs = let e = c₁ (c .before .before) in (omega arith, start e .pre .1 .1, rw (back e) (omega (arith, start e .pre .1 .2)))
 
 mul-fives-3 : tie.Need-mul-fives-3
 mul-fives-3 c = search needs
@@ -105,7 +103,7 @@ part-fives-end-4 : tie.Need-part-fives-end-4
 part-fives-end-4 c = search needs
 
 fives-requires-4 : tie.Need-fives-requires-4
-fives-requires-4 c κs = (omega arith, start (c₁ (c₂ (c .before .before))) .pre .1 .1, lit≤ tt)
+fives-requires-4 c κs = (omega arith, start (c₁ (c₂ (c .before .before))) .pre .1 .1, start (c₁ (c₂ (c .before .before))) .pre .1 .2)
 
 same-length : tie.Need-same-length
 same-length c = search needs
@@ -118,11 +116,11 @@ returns c =
     let e₁ = c₁ e₂ in
     let k = start e₁ in
     let a = k .args in
-    four-parts (fiveIn evenWeights (a .s) (a .dh .now) (a .dv .now)) (a .w) (a .f .now) (k .pre .0 .4)
-    (e₁ .fives .ensures) (λ j. five-after evenWeights 1 (a .dh .now) (omega arith))
-    (e₂ .fives2 .ensures) (λ j. five-before evenWeights 1 (a .dh .now) _ _ (back e₁) (omega arith))
-    (e₃ .fives3 .ensures) (λ j. five-before evenWeights (a .s) (a .dv .now) _ _ (back e₁) (omega arith))
-    (e₄ .fives4 .ensures) (λ j. five-after evenWeights (a .s) (a .dv .now) (omega arith))
+    four-parts (fiveIn (a .weights) (a .s) (a .dh .now) (a .dv .now)) (a .w) (a .f .now) (k .pre .0 .4)
+    (e₁ .fives .ensures) (λ j. five-after (a .weights) 1 (a .dh .now) (omega arith))
+    (e₂ .fives2 .ensures) (λ j. five-before (a .weights) 1 (a .dh .now) _ _ (back e₁) (omega arith))
+    (e₃ .fives3 .ensures) (λ j. five-before (a .weights) (a .s) (a .dv .now) _ _ (back e₁) (omega arith))
+    (e₄ .fives4 .ensures) (λ j. five-after (a .weights) (a .s) (a .dv .now) (omega arith))
 
 pub row-fives-spec : {M : Type 1} → statement M
 row-fives-spec =

@@ -1,11 +1,11 @@
 -- `green_rows::directions::row_sums` meets its contract: each call fills one of the four parts. Assumes nothing.
 use native.Mathlib.Omega.{arith}
-use Rattle.green_rows.specs.Directions.{sumIn}
 use Rattle.lists.proofs.JoinedLaws.{four-parts}
+use Rattle.green_rows.specs.Directions.{sumIn}
 use Rattle.green_rows.proofs.DirectionLaws.{sum-at}
-use borrow.Author.Needs.{needs}
 use Rattle.green_rows.proofs.directions.row_sums.Statement.{statement}
 use Rattle.green_rows.proofs.directions.row_sums.Tie as tie
+use borrow.Author.Needs.{needs}
 
 -- before each call
 abbrev start : tie.After-sums → tie.Start

@@ -5,10 +5,10 @@ use native.Mathlib.Omega.{arith}
 use mathlib.Core.Path.{refl, ap, _∙_}
 use lib.IntN.{subℕ}
 use lib.ListN.{length, getD}
+use Rattle.lists.proofs.TableLaws.{Filled, table-none, table-turn, table-done}
 use Rattle.bayer.specs.Mirror.{mirror}
 use Rattle.bayer.proofs.MirrorLaws.{mirror-inside, mirror-above, mirror-below, mirror-from}
 use Rattle.green_rows.specs.Extended.{column}
-use Rattle.lists.proofs.TableLaws.{Filled, table-none, table-turn, table-done}
 use Rattle.green_rows.proofs.extend.edge.Statement.{statement}
 use Rattle.green_rows.proofs.extend.edge.Tie as tie
 

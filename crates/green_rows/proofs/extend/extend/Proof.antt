@@ -7,12 +7,12 @@ use mathlib.Core.Path.{_≡_, sym, ap, ap₂, _∙_}
 use lib.IntN.{pos}
 use lib.ListN.{length, take, drop, getD, length-append}
 use lib.Seq.{take-at, drop-at}
-use Rattle.bayer.specs.Mirror.{mirror}
-use Rattle.bayer.proofs.MirrorLaws.{mirror-from, mirror-inside}
 use Rattle.lists.specs.Table.{table}
-use Rattle.green_rows.specs.Extended.{column}
 use Rattle.lists.proofs.TableLaws.{length-table, table-same, table-append, table-getD}
 use Rattle.lists.proofs.PartLaws.{put-rest}
+use Rattle.bayer.specs.Mirror.{mirror}
+use Rattle.bayer.proofs.MirrorLaws.{mirror-from, mirror-inside}
+use Rattle.green_rows.specs.Extended.{column}
 use Rattle.green_rows.proofs.extend.extend.Statement.{statement}
 use Rattle.green_rows.proofs.extend.extend.Tie as tie
 

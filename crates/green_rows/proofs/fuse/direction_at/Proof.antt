@@ -8,8 +8,8 @@ use lib.ListN.{getD}
 use mir.Syntax.{w32, w64}
 use mir.ValLaws.{toZ-ofZ}
 use Rattle.whole.proofs.Signed.{wide-cast}
-use Rattle.gbtf.specs.Direction.{direction}
 use Rattle.lists.proofs.JoinedLaws.{part-within}
+use Rattle.gbtf.specs.Direction.{direction}
 use Rattle.green_rows.proofs.fuse.direction_at.Statement.{statement}
 use Rattle.green_rows.proofs.fuse.direction_at.Tie as tie
 

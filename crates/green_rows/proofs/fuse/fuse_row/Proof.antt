@@ -3,17 +3,17 @@ use Prim.Native.Nat.{_-_, _≤_}
 use native.Mathlib.Omega.{arith}
 use mathlib.Core.Path.{refl, _∙_}
 use lib.ListN.{length}
-use Rattle.gbtf.specs.Weights.{scale}
-use Rattle.green_rows.specs.Buffer.{greenFrom}
 use Rattle.lists.proofs.TableLaws.{Filled, table-none, table-turn, table-done}
+use Rattle.gbtf.specs.Weights.{scale}
+use Rattle.green_rows.specs.GreenIn.{greenFrom}
 use Rattle.green_rows.proofs.fuse.fuse_row.Statement.{statement}
 use Rattle.green_rows.proofs.fuse.fuse_row.Tie as tie
 
 abbrev Inv-loop : tie.InvT-loop
-Inv-loop x odd t f out₀ j₀ out j = (j ≤ length out₀) × Filled (greenFrom scale 5 odd x t f) j out₀ out
+Inv-loop total x odd t f out₀ j₀ out j = (j ≤ length out₀) × Filled (greenFrom scale total odd x t f) j out₀ out
 
 abbrev μ-loop : tie.MeasureT-loop
-μ-loop x odd t f out₀ j₀ out j = length out₀ - j
+μ-loop total x odd t f out₀ j₀ out j = length out₀ - j
 
 loop-holds : tie.Need-loop-holds Inv-loop μ-loop
 loop-holds c = (omega arith, (table-none _ _, refl))
@@ -21,7 +21,7 @@ loop-holds c = (omega arith, (table-none _ _, refl))
 pixel-requires : tie.Need-pixel-requires Inv-loop μ-loop
 pixel-requires c κs =
     let p = c .before .before .before .before .before .pre in
-    ((p .0 .0, p .0 .1, omega arith), p .1)
+    ((p .0 .0, p .0 .1, omega arith, p .0 .3, p .0 .4), p .1)
 
 mul-out : tie.Need-mul-out Inv-loop μ-loop
 mul-out c = omega arith

@@ -3,14 +3,14 @@ use Prim.Native.Nat.{ℕ, _+_, _*_}
 use native.Mathlib.Omega.{arith}
 use mathlib.Core.Path.{_≡_, sym, subst, _∙_}
 use Rattle.gbtf.specs.declared.direction.Direction.{Direction}
-use Rattle.gbtf.specs.Fusion.{Fitting}
+use Rattle.gbtf.specs.Machine.{Fitting}
 use Rattle.gbtf.specs.Weights.{scale}
-use Rattle.gbtf.proofs.PixelLaws.{fitting}
+use Rattle.gbtf.proofs.MachineBounds.{fitting}
 use Rattle.green_rows.specs.Directions.{directionFrom}
-use Rattle.green_rows.specs.Buffer.{fusedBy}
-use borrow.Author.Needs.{needs}
+use Rattle.green_rows.specs.GreenIn.{fusedBy}
 use Rattle.green_rows.proofs.fuse.green_at.Statement.{statement}
 use Rattle.green_rows.proofs.fuse.green_at.Tie as tie
+use borrow.Author.Needs.{needs}
 
 direction-at-requires : tie.Need-direction-at-requires
 direction-at-requires c κs = search needs

@@ -2,10 +2,10 @@
 use Prim.Native.Nat.{_+_, _%_}
 use native.Mathlib.Omega.{arith}
 use borrow.Author.Tests.{eq-eqb, ne-eqb}
-use Rattle.green_rows.specs.Buffer.{greenFrom}
-use borrow.Author.Needs.{needs}
+use Rattle.green_rows.specs.GreenIn.{greenFrom}
 use Rattle.green_rows.proofs.fuse.pixel.Statement.{statement}
 use Rattle.green_rows.proofs.fuse.pixel.Tie as tie
+use borrow.Author.Needs.{needs}
 
 mul-c : tie.Need-mul-c
 mul-c c = search needs

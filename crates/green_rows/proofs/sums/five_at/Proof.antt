@@ -7,12 +7,12 @@ use lib.IntN.{ℤ, natAbs}
 use mir.Syntax.{w32, w64}
 use Rattle.whole.proofs.Signed.{E, int, «as», asked, value}
 use Rattle.gbtf.specs.Direction.{fiveSum}
-use Rattle.gbtf.proofs.PixelLaws.{five-sum-within}
+use Rattle.gbtf.proofs.PixelBounds.{five-sum-within}
 use Rattle.green_rows.specs.Directions.{after}
 use Rattle.green_rows.proofs.ReadLaws.{read-at, five-same}
-use borrow.Author.Needs.{needs}
 use Rattle.green_rows.proofs.sums.five_at.Statement.{statement}
 use Rattle.green_rows.proofs.sums.five_at.Tie as tie
+use borrow.Author.Needs.{needs}
 
 mul-t6 : tie.Need-mul-t6
 mul-t6 c = search needs

@@ -5,9 +5,9 @@ use mathlib.Core.Path.{refl, _∙_}
 use lib.ListN.{length}
 use mir.Syntax.{w32}
 use Rattle.whole.proofs.Signed.{read-result}
+use Rattle.lists.proofs.TableLaws.{Filled, table-none, table-turn, table-done}
 use Rattle.gbtf.specs.Direction.{fiveSum}
 use Rattle.green_rows.specs.Directions.{after}
-use Rattle.lists.proofs.TableLaws.{Filled, table-none, table-turn, table-done}
 use Rattle.green_rows.proofs.sums.fives.Statement.{statement}
 use Rattle.green_rows.proofs.sums.fives.Tie as tie
 

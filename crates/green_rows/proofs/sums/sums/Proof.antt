@@ -4,9 +4,9 @@ use native.Mathlib.Nat.{le-trans, le-of-eq}
 use native.Mathlib.Omega.{arith}
 use mathlib.Core.Path.{refl, ap, _∙_}
 use lib.ListN.{length}
+use Rattle.lists.proofs.TableLaws.{Filled, table-none, table-turn, table-done}
 use Rattle.gbtf.specs.Direction.{directionSum}
 use Rattle.green_rows.specs.Directions.{windowIn}
-use Rattle.lists.proofs.TableLaws.{Filled, table-none, table-turn, table-done}
 use Rattle.green_rows.proofs.BoundLaws.{window-at-most}
 use Rattle.green_rows.proofs.sums.sums.Statement.{statement}
 use Rattle.green_rows.proofs.sums.sums.Tie as tie

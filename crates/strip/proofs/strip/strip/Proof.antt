@@ -2,13 +2,13 @@
 use native.Mathlib.Omega.{arith}
 use mathlib.Core.Path.{_≡_, sym, _∙_}
 use Rattle.bayer.specs.Refusal.{heldAfter}
-use lib.ListN.{length}
-use borrow.Author.Needs.{needs}
 use Rattle.bayer.proofs.RefusalLaws.{refused-holds}
 use Rattle.strip.specs.Strip.{asked}
 use Rattle.strip.proofs.StripLaws.{Fits, fits, readable}
 use Rattle.strip.proofs.strip.strip.Statement.{statement}
 use Rattle.strip.proofs.strip.strip.Tie as tie
+use lib.ListN.{length}
+use borrow.Author.Needs.{needs}
 
 strip-check-requires : tie.Need-strip-check-requires
 strip-check-requires c κs = search needs

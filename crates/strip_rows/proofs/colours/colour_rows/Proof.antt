@@ -6,11 +6,11 @@ use mathlib.Core.List.{List}
 use mathlib.Core.Path.{_≡_, refl, _∙_}
 use lib.ListN.{length}
 use borrow.Author.Needs.{needs}
-use Rattle.bayer.specs.declared.colour.Colour.{Colour}
-use Rattle.bayer.specs.declared.frame.Frame.{Frame}
 use Rattle.lists.proofs.TableLaws.{length-table}
 use Rattle.lists.proofs.JoinedLaws.{part-within, Handed, joined-none, joined-turn, joined-done}
 use Rattle.lists.proofs.PartLaws.{part-length}
+use Rattle.bayer.specs.declared.colour.Colour.{Colour}
+use Rattle.bayer.specs.declared.frame.Frame.{Frame}
 use Rattle.strip_rows.specs.Rows.{colourRow}
 use Rattle.strip_rows.proofs.GreenAmong.{green-length, among-above, among-here, among-below}
 use Rattle.strip_rows.proofs.colours.colour_rows.Statement.{statement}

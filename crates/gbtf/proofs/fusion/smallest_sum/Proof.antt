@@ -1,7 +1,7 @@
--- `gbtf::fusion::smallest` meets its contract. Assumes nothing.
+-- `gbtf::fusion::smallest_sum` meets its contract. Assumes nothing.
 use borrow.Author.Needs.{needs}
-use Rattle.gbtf.proofs.fusion.smallest.Statement.{statement}
-use Rattle.gbtf.proofs.fusion.smallest.Tie as tie
+use Rattle.gbtf.proofs.fusion.smallest_sum.Statement.{statement}
+use Rattle.gbtf.proofs.fusion.smallest_sum.Tie as tie
 
 guard-requires : tie.Need-guard-requires
 guard-requires c κs = search needs
@@ -27,8 +27,8 @@ lesser-requires-3 c κs = search needs
 returns : tie.Need-returns
 returns c = cc
 
-pub smallest-spec : {M : Type 1} → statement M
-smallest-spec =
+pub smallest-sum-spec : {M : Type 1} → statement M
+smallest-sum-spec =
     tie.close
     (tie.spec
     guard-requires

@@ -1,11 +1,10 @@
 ghost use mathlib.Core.Path.{_≡_};
 ghost use Prim.Native.Nat.{ℕ, _+_, _*_, _%_, _≤_, _<_, min};
-ghost use lib.IntN.{pos};
 ghost use lib.ListN.{length};
-ghost use Rattle.lists.specs.Table.{table, joined};
+ghost use Rattle.lists.specs.Table.{joined};
 ghost use Rattle.lists.specs.Bound.{AllAtMost};
-ghost use Rattle.green_rows.specs.Extended.{Lent};
 ghost use Rattle.green_rule.specs.Greens.{greenRow};
+ghost use Rattle.green_rows.specs.Extended.{Lent};
 ghost use Rattle.green_blocks.specs.Room.{Room};
 use crate::block::green_block;
 use bayer::frame::Frame;

@@ -1,4 +1,4 @@
--- `gbtf::fusion::floor` meets its contract: lifted, the dividend is a natural. Assumes nothing.
+-- `gbtf::fusion::floor_quotient` meets its contract: lifted, the dividend is a natural. Assumes nothing.
 use Prim.Native.Nat.{ℕ, _*_, _/_, _≤_}
 use native.Mathlib.Nat.{le-trans, lt-of-le-of-lt, mul-le-mul}
 use native.Mathlib.Omega.{arith}
@@ -9,9 +9,9 @@ use mir.Syntax.{w32, w64}
 use mir.Val.{toZ}
 use Rattle.whole.proofs.FloorLaws.{lifted, lifted-is, quotient-le, lowered-is}
 use Rattle.whole.proofs.Signed.{E, nat, int, _⊕_, _⊖_, bits, asked, value, bounded, to-unsigned}
+use Rattle.gbtf.proofs.fusion.floor_quotient.Statement.{statement}
+use Rattle.gbtf.proofs.fusion.floor_quotient.Tie as tie
 use borrow.Author.Needs.{needs, sfits-of}
-use Rattle.gbtf.proofs.fusion.floor.Statement.{statement}
-use Rattle.gbtf.proofs.fusion.floor.Tie as tie
 
 small : (c : tie.Start) → c .args .lift * c .args .d ≤ 2305843009213693952
 small c = mul-le-mul (c .pre .2) (c .pre .1)
@@ -67,8 +67,8 @@ returns c =
     ∙ ap (λ (k : ℕ). pos k -ℤ pos (c .args .lift)) (quotient-is c)
     ∙ lowered-is (c .args .x) (c .args .d) (c .args .lift) (c .pre .0) (c .pre .3)
 
-pub floor-spec : {M : Type 1} → statement M
-floor-spec =
+pub floor-quotient-spec : {M : Type 1} → statement M
+floor-quotient-spec =
     tie.close
     (tie.spec
     mul-result

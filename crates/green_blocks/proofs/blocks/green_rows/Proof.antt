@@ -1,20 +1,19 @@
--- `green_blocks::rows::green_rows` meets its contract. Assumes nothing.
+-- `green_blocks::blocks::green_rows` meets its contract. Assumes nothing.
 use Prim.Native.Nat.{ℕ, _+_, _-_, _*_, _≤_, _<_}
 use native.Mathlib.Nat.{add-mul, mul-le-mul-right}
 use native.Mathlib.Omega.{arith}
 use mathlib.Core.List.{List}
 use mathlib.Core.Path.{_≡_, refl, ap, subst, _∙_}
-use lib.IntN.{pos}
 use lib.ListN.{length}
-use Rattle.bayer.specs.declared.frame.Frame.{Frame}
-use Rattle.green_rule.specs.Greens.{greenRow}
-use Rattle.lists.specs.Table.{table, joined}
-use Rattle.green_rows.specs.Extended.{Lent}
+use Rattle.lists.specs.Table.{joined}
 use Rattle.lists.proofs.TableLaws.{length-table}
 use Rattle.lists.proofs.JoinedLaws.{joined-same, Handed, joined-none, joined-turns, joined-done}
 use Rattle.lists.proofs.PartLaws.{part-length}
-use Rattle.green_blocks.proofs.rows.green_rows.Statement.{statement}
-use Rattle.green_blocks.proofs.rows.green_rows.Tie as tie
+use Rattle.bayer.specs.declared.frame.Frame.{Frame}
+use Rattle.green_rule.specs.Greens.{greenRow}
+use Rattle.green_rows.specs.Extended.{Lent}
+use Rattle.green_blocks.proofs.blocks.green_rows.Statement.{statement}
+use Rattle.green_blocks.proofs.blocks.green_rows.Tie as tie
 
 -- green of row a + i
 abbrev rows : (f : Frame) (start : ℕ) (piece : List ℕ) (a i : ℕ) → List ℕ
@@ -49,15 +48,28 @@ sub-block-size c = omega arith
 block-size-requires : tie.Need-block-size-requires Inv-loop μ-loop
 block-size-requires c κs = tt
 
+-- the entry, the block's size, and after the call
+abbrev start : tie.In-loop Inv-loop μ-loop → tie.Start Inv-loop μ-loop
+start c = c .before .before .before .before .before .before .before .before
+
+abbrev sized : tie.After-green-block-in-arg6 Inv-loop μ-loop → tie.After-block-size Inv-loop μ-loop
+sized c = c .before .before .before .before .before .before
+
+abbrev called : tie.After-slice-known6 Inv-loop μ-loop → tie.After-green-block-in Inv-loop μ-loop
+called c = c .before .before .before .before .before
+
+abbrev block : tie.After-slice-known8 Inv-loop μ-loop → tie.After-block-size Inv-loop μ-loop
+block c = sized (called (c .before .before .before .before .before) .before)
+
 -- the block lies among the rows, and so in out
-inside : (c : tie.After-block-size Inv-loop μ-loop) → let k = c .before in k .before .loop .i + c .block-size .result ≤ k .before .before .before .before .before .before .before .before .args .n
+inside : (c : tie.After-block-size Inv-loop μ-loop) → let k = c .before in k .before .loop .i + c .block-size .result ≤ start k .args .n
 inside c = omega (arith, c .block-size .ensures, c .before .loop-test .taken)
 
 some : (c : tie.After-block-size Inv-loop μ-loop) → 0 < c .block-size .result
 some c = omega (arith, c .block-size .ensures, c .before .loop-test .taken)
 
-writes : (c : tie.After-block-size Inv-loop μ-loop) → let k = c .before in let a = k .before .before .before .before .before .before .before .before .args in k .before .loop .i * a .frame .width + c .block-size .result * a .frame .width ≤ a .n * a .frame .width
-writes c = rw add-mul at (mul-le-mul-right (c .before .before .before .before .before .before .before .before .before .args .frame .width) (inside c))
+writes : (c : tie.After-block-size Inv-loop μ-loop) → let k = c .before in let a = start k .args in k .before .loop .i * a .frame .width + c .block-size .result * a .frame .width ≤ a .n * a .frame .width
+writes c = rw add-mul at (mul-le-mul-right (start (c .before) .args .frame .width) (inside c))
 
 mul-at : tie.Need-mul-at Inv-loop μ-loop
 mul-at c = omega (arith, writes c)
@@ -85,10 +97,10 @@ part-green-block-in-end c = omega (arith, writes (c .before .before .before .bef
 
 green-block-in-requires : tie.Need-green-block-in-requires Inv-loop μ-loop
 green-block-in-requires c κs =
-    let e = c .before .before .before .before .before .before in
+    let e = sized c in
     let k = e .before in
     let l = k .before .loop in
-    let q = k .before .before .before .before .before .before .before .before in
+    let q = start k in
     let z = k .before .before .stride in
     let r = q .pre .1 .1 .0 in
     let a = q .args in (
@@ -107,18 +119,18 @@ green-block-in-requires c κs =
     )
 
 add-i : tie.Need-add-i Inv-loop μ-loop
-add-i c = omega (arith, inside (c .before .before .before .before .before .before .before .before .before .before .before .before .before .before .before .before .before))
+add-i c = omega (arith, inside (block c))
 
 loop-less : tie.Need-loop-less Inv-loop μ-loop
-loop-less c = omega (arith, inside (c .before .before .before .before .before .before .before .before .before .before .before .before .before .before .before .before .before), some (c .before .before .before .before .before .before .before .before .before .before .before .before .before .before .before .before .before))
+loop-less c = omega (arith, inside (block c), some (block c))
 
 loop-again : tie.Need-loop-again Inv-loop μ-loop
 loop-again c =
-    let r = c .before .before .before .before .before .before .before .before .before .before in
-    let e = r .before .before .before .before .before .before .before in
+    let r = called (c .before .before .before .before .before) in
+    let e = block c in
     let k = e .before in
     let l = k .before .loop in
-    let q = k .before .before .before .before .before .before .before .before in
+    let q = start k in
     let a = q .args in
     let z = r .green-block-in .kept .1 .1 .1 .1 .1 .1 in (
       omega (arith, inside e),

@@ -1,24 +1,14 @@
--- What stands in a buffer of rows of readings, and what is worked out from it at each place. A row is s places wide, s odd, so that neighbours along
--- a row are 1 place apart and along a column s places, and a place is green by its parity alone. Assumes nothing.
+-- Green at each column of a row, from buffers. Assumes nothing.
 use Prim.Native.Nat.{ℕ, _+_, _*_}
 use mathlib.Core.Bool.{cond}
 use mathlib.Core.List.{List, [], _∷_}
-use lib.IntN.{ℤ, pos}
+use lib.IntN.{ℤ}
 use lib.ListN.{length, getD}
 use Rattle.bayer.specs.Parity.{isOdd}
 use Rattle.gbtf.specs.declared.direction.Direction.{Direction}
-use Rattle.gbtf.specs.Difference.{difference, gradient}
 use Rattle.gbtf.specs.Direction.{total}
 use Rattle.gbtf.specs.Fusion.{green}
 use Rattle.green_rows.specs.Directions.{directionIn, directionFrom}
-
--- the difference at place k + 2 step of x, along an axis whose places are step apart; place k + 2 step is green where k + odd is odd
-abbrev pub differenceIn : (step odd : ℕ) (x : List ℕ) → ℕ → ℤ
-differenceIn step odd x k = difference (isOdd (k + odd)) (getD x (k + 2 * step) 0) (getD x (k + step) 0) (getD x (k + 3 * step) 0) (getD x k 0) (getD x (k + 4 * step) 0)
-
--- the gradient at place k + step of d
-abbrev pub gradientIn : (step : ℕ) (d : List ℤ) → ℕ → ℕ
-gradientIn step d k = gradient (getD d k (pos 0)) (getD d (k + 2 * step) (pos 0))
 
 -- green at a red or blue pixel of reading c, whose directions are D 0 to D 3
 unfoldable pub fusedBy : (K T c : ℕ) (D : ℕ → Direction) → ℕ
