@@ -41,7 +41,11 @@ fn own_between(x: &[u16], g: &[u16], odd: usize, l: usize, j: usize, r: usize) -
     requires { ⌜ (l ≡ leftOf (length (now x)) j) × (r ≡ rightOf (length (now x)) j) ⌝ }
     ensures { λ s. ⌜ s ≡ ownIn (length (now (x .entry))) odd (now (x .entry)) (now (g .entry)) j ⌝ }
 {
-    let filled = pair(g[j], colour_difference_at(x, g, l), colour_difference_at(x, g, r));
+    let filled = pair(
+        g[j],
+        colour_difference_at(x, g, l),
+        colour_difference_at(x, g, r),
+    );
     let observed = 16 * (x[j] as i32);
     whole::clamp(chosen(is_green(odd, j), filled, observed))
 }
@@ -88,7 +92,11 @@ fn other_between(
     requires { ⌜ (l ≡ leftOf (length (now g)) j) × (r ≡ rightOf (length (now g)) j) ⌝ }
     ensures { λ s. ⌜ s ≡ otherIn (length (now (g .entry))) odd (now (g .entry)) (now (xa .entry)) (now (ga .entry)) (now (xb .entry)) (now (gb .entry)) j ⌝ }
 {
-    let by_column = pair(g[j], colour_difference_at(xa, ga, j), colour_difference_at(xb, gb, j));
+    let by_column = pair(
+        g[j],
+        colour_difference_at(xa, ga, j),
+        colour_difference_at(xb, gb, j),
+    );
     let by_diagonal = diagonal(
         g[j],
         colour_difference_at(xa, ga, l),

@@ -7,7 +7,7 @@ use lib.Dec.{lit≤}
 use lib.IntN.{subℕ}
 use Rattle.bayer.specs.declared.frame.Frame.{Frame}
 use Rattle.bayer.specs.Mirror.{mirror}
-use Rattle.green_rows.specs.Extended.{Lent}
+use Rattle.bayer.specs.Lent.{Lent}
 
 module _ (f : Frame) (first n v b : ℕ) (lent : (i : ℕ) → i < b → Lent f first n (v + i)) (some : 0 < b) where
   -- what holds of the row at each place r around each row of the block

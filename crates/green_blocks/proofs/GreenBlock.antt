@@ -19,17 +19,18 @@ use Rattle.bayer.specs.declared.frame.Frame.{Frame}
 use Rattle.bayer.specs.Mirror.{mirror}
 use Rattle.bayer.specs.Mosaic.{continued}
 use Rattle.bayer.specs.Parity.{isOdd, startsGreen}
+use Rattle.bayer.specs.Lent.{Lent}
 use Rattle.bayer.proofs.ParityLaws.{odd-by, starts-below, starts-next}
 use Rattle.gbtf.specs.Bounds.{mostDifference, mostGradient}
 use Rattle.gbtf.specs.Difference.{difference, gradient}
 use Rattle.gbtf.specs.Direction.{total}
 use Rattle.gbtf.specs.GreenAt.{greenAt}
-use Rattle.green_rows.specs.AlongAxis.{differenceIn, gradientIn}
-use Rattle.green_rows.specs.GreenIn.{greenIn}
-use Rattle.green_rows.specs.Extended.{column, extendedRow, Lent}
-use Rattle.green_rows.proofs.BoundLaws.{extended-at-most, differences-within, gradients-at-most}
-use Rattle.green_rows.proofs.RowLaws.{odd-row}
-use Rattle.green_rows.proofs.GreenRow.{row-start, row-end, RowBuffers, fused}
+use Rattle.green_row.specs.AlongAxis.{differenceIn, gradientIn}
+use Rattle.green_row.specs.GreenIn.{greenIn}
+use Rattle.green_row.specs.Extended.{column, extendedRow}
+use Rattle.green_row.proofs.BoundLaws.{extended-at-most, differences-within, gradients-at-most}
+use Rattle.green_row.proofs.RowLaws.{odd-row}
+use Rattle.green_row.proofs.GreenRow.{row-start, row-end, RowBuffers, fused}
 use Rattle.green_blocks.specs.Block.{greenRowIn}
 
 -- the same readings give the same difference, at place k of x and place j of y
@@ -48,7 +49,6 @@ pub record BlockBuffers (f : Frame) (first : ℕ) (rows : List ℕ) (v b s o : �
   pub lent : (i : ℕ) → i < b → Lent f first (length rows) (v + i)
   pub some : 0 < b
   pub few : b ≤ 4
-  pub known : f .layout ≤ 3
   pub odd : s % 2 ≡ 1
   pub wide : f .width + 14 ≤ s
   pub narrow : s ≤ f .width + 15
@@ -155,8 +155,8 @@ module _ {f : Frame} {first : ℕ} {rows : List ℕ} {v b s o : ℕ} {x : List �
 
     buffers : RowBuffers f first rows (v + i) s o′ x′ (part (i * s) (3 * s) dh) (part (i * s) (9 * s) dv) (part (i * s) (3 * s - 2) gh) (part (i * s) (5 * s) gv)
     buffers = record {
-      places = record { lent = z .lent i hi; known = z .known; wide = z .wide; narrow = z .narrow; odd = z .odd };
-      starts = ap (λ n. (n + i) % 2) (z .starts) ∙ sym (starts-next (f .layout) v i (z .known));
+      places = record { lent = z .lent i hi; wide = z .wide; narrow = z .narrow; odd = z .odd };
+      starts = ap (λ n. (n + i) % 2) (z .starts) ∙ sym (starts-next (f .layout) v i (z .lent i hi .frame .known));
       x-is =
           ap (part (i * s) (13 * s)) (z .x-is) ∙ joined-rows (extendedRow f first rows v s) s (λ r. length-table _ s) (b + 12) i 13 (omega arith)
           ∙ joined-same _ _ 13 (λ r _. (let a : v + (i + r) ≡ v + i + r = omega arith in ap (λ n. table (column (rowOf (f .width) (mirror (f .height) (subℕ n 6) - first) rows)) s) a));
@@ -237,7 +237,7 @@ module _ {f : Frame} {first : ℕ} {rows : List ℕ} {v b s o : ℕ} {x : List �
             part-length at (b * f .width) rows block-end,
             e,
             z .wide,
-            omega (arith, z .narrow, z .lent 0 (z .some) .narrow),
+            omega (arith, z .narrow, z .lent 0 (z .some) .frame .narrow),
             z .few,
             h,
             k,

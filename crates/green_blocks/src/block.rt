@@ -7,20 +7,20 @@ ghost use lib.ListN.{length};
 ghost use Rattle.lists.specs.Table.{table, joined};
 ghost use Rattle.lists.specs.Part.{part};
 ghost use Rattle.lists.specs.Bound.{AllAtMost, AllWithin};
+ghost use Rattle.bayer.specs.Lent.{Lent};
 ghost use Rattle.gbtf.specs.Bounds.{mostDifference, mostGradient};
 ghost use Rattle.gbtf.specs.Direction.{total};
 ghost use Rattle.gbtf.specs.Weights.{scale};
 ghost use Rattle.green_rule.specs.Greens.{greenRow};
-ghost use Rattle.green_rows.specs.AlongAxis.{differenceIn, gradientIn};
-ghost use Rattle.green_rows.specs.Extended.{Lent};
+ghost use Rattle.green_row.specs.AlongAxis.{differenceIn, gradientIn};
 ghost use Rattle.green_blocks.specs.Block.{greenRowIn};
 use crate::fetch::fetch;
 use bayer::frame::Frame;
 use bayer::parity::starts_green;
 use gbtf::weights::WEIGHTS;
-use green_rows::along::differences;
-use green_rows::along::gradients;
-use green_rows::fuse::fuse;
+use green_row::along::differences;
+use green_row::along::gradients;
+use green_row::fuse::fuse;
 
 // The differences along the b + 2 rows in the middle of the readings, and then along the columns of the b + 8 in the middle.
 fn all_differences(x: &[u16], s: usize, m: usize, odd: usize, d: &mut [i32])
@@ -109,7 +109,7 @@ pub fn green_block(
     f: &mut [i32],
     out: &mut [u16],
 )
-    requires { ⌜ ((i : ℕ) → i < b → Lent frame start (length (now piece)) (v + i)) × (0 < b) × (b ≤ 4) × (frame .layout ≤ 3) × (AllAtMost 4095 (now piece)) ⌝ }
+    requires { ⌜ ((i : ℕ) → i < b → Lent frame start (length (now piece)) (v + i)) × (0 < b) × (b ≤ 4) × (AllAtMost 4095 (now piece)) ⌝ }
     requires { ⌜ (s % 2 ≡ 1) × (frame .width + 14 ≤ s) × (s ≤ frame .width + 15) × (length (now t) ≡ 4 * frame .width) × (length (now f) ≡ 4 * frame .width) × (length (now out) ≡ b * frame .width) ⌝ }
     requires { ⌜ (length (now x) ≡ b * s + 12 * s) × (length (now d) ≡ b * s + 2 * s + (b * s + 8 * s)) × (length (now g) ≡ b * s + 2 * s - 2 + (b * s + 4 * s)) ⌝ }
     ensures { λ _. ⌜ now (out .exit) ≡ joined (λ i. greenRow frame start (now (piece .entry)) (v + i)) b ⌝ }

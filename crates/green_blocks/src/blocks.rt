@@ -3,8 +3,8 @@ ghost use Prim.Native.Nat.{ℕ, _+_, _*_, _%_, _≤_, _<_, min};
 ghost use lib.ListN.{length};
 ghost use Rattle.lists.specs.Table.{joined};
 ghost use Rattle.lists.specs.Bound.{AllAtMost};
+ghost use Rattle.bayer.specs.Lent.{Lent};
 ghost use Rattle.green_rule.specs.Greens.{greenRow};
-ghost use Rattle.green_rows.specs.Extended.{Lent};
 ghost use Rattle.green_blocks.specs.Room.{Room};
 use crate::block::green_block;
 use bayer::frame::Frame;
@@ -39,7 +39,7 @@ fn green_block_in(
     f: &mut [i32],
     out: &mut [u16],
 )
-    requires { ⌜ ((i : ℕ) → i < b → Lent frame start (length (now piece)) (v + i)) × (0 < b) × (b ≤ 4) × (frame .layout ≤ 3) × (AllAtMost 4095 (now piece)) ⌝ }
+    requires { ⌜ ((i : ℕ) → i < b → Lent frame start (length (now piece)) (v + i)) × (0 < b) × (b ≤ 4) × (AllAtMost 4095 (now piece)) ⌝ }
     requires { ⌜ (s % 2 ≡ 1) × (frame .width + 14 ≤ s) × (s ≤ frame .width + 15) ⌝ }
     requires { ⌜ (16 * s ≤ length (now x)) × (18 * s ≤ length (now d)) × (14 * s ≤ length (now g)) × (4 * frame .width ≤ length (now t)) × (4 * frame .width ≤ length (now f)) × (length (now out) ≡ b * frame .width) ⌝ }
     ensures { λ _. ⌜ now (out .exit) ≡ joined (λ i. greenRow frame start (now (piece .entry)) (v + i)) b ⌝ }
@@ -79,7 +79,7 @@ pub fn green_rows(
     f: &mut [i32],
     out: &mut [u16],
 )
-    requires { ⌜ ((i : ℕ) → i < n → Lent frame start (length (now piece)) (a + i)) × (frame .layout ≤ 3) × (AllAtMost 4095 (now piece)) ⌝ }
+    requires { ⌜ ((i : ℕ) → i < n → Lent frame start (length (now piece)) (a + i)) × (AllAtMost 4095 (now piece)) ⌝ }
     requires { ⌜ (n ≤ 4096) × (a ≤ 4096) × (frame .width ≤ 4096) ⌝ }
     requires { ⌜ (Room (frame .width) (length (now x)) (length (now d)) (length (now g)) (length (now t)) (length (now f))) × (length (now out) ≡ n * frame .width) ⌝ }
     ensures { λ _. ⌜ now (out .exit) ≡ joined (λ i. greenRow frame start (now (piece .entry)) (a + i)) n ⌝ }

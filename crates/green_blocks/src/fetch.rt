@@ -2,10 +2,11 @@ ghost use mathlib.Core.Path.{_≡_};
 ghost use Prim.Native.Nat.{ℕ, _+_, _*_, _≤_, _<_};
 ghost use lib.ListN.{length};
 ghost use Rattle.lists.specs.Table.{joined};
-ghost use Rattle.green_rows.specs.Extended.{extendedRow, Lent};
+ghost use Rattle.bayer.specs.Lent.{Lent};
+ghost use Rattle.green_row.specs.Extended.{extendedRow};
 use bayer::frame::Frame;
 use bayer::mirror::mirror;
-use green_rows::extend::extend;
+use green_row::extend::extend;
 
 // Rows v - 6 to v + b + 5 of the continued mosaic, each s places wide, from column -7 on.
 pub fn fetch(frame: Frame, start: usize, piece: &[u16], v: usize, b: usize, s: usize, x: &mut [u16])

@@ -15,10 +15,10 @@ use Rattle.lists.specs.Bound.{AllAtMost}
 use Rattle.bayer.specs.Mirror.{mirror}
 use Rattle.bayer.specs.Piece.{pieceStart, pieceEnd, pieceRows}
 use Rattle.bayer.specs.Condition.{frameCases, FrameFits, rowsCases}
+use Rattle.bayer.specs.Lent.{Lent}
 use Rattle.bayer.proofs.RefusalLaws.{off, off-append}
 use Rattle.bayer.proofs.ConditionLaws.{frame-fits, rows-fit, readings-fit}
 use Rattle.demosaic.proofs.FrameLocal.{in-piece}
-use Rattle.green_rows.specs.Extended.{Lent}
 use Rattle.strip_rows.specs.Rows.{Readable}
 use Rattle.strip.specs.Strip.{Asked, lengthCases, stripNumber}
 
@@ -61,10 +61,7 @@ fits c red green blue e =
 module _ (c : Asked) {red green blue : ℕ} (w : Fits c red green blue) where
   lent-at : (v : ℕ) → v < c .frame .height → c .first ≤ v + 1 → v ≤ c .first + c .count → Lent (c .frame) (pieceStart (c .first)) (length (c .piece)) v
   lent-at v hv low high = record {
-    wide = w .frame .wide;
-    narrow = w .frame .narrow;
-    high = w .frame .high;
-    low = w .frame .low;
+    frame = w .frame;
     row = hv;
     start = λ r h. inside r h .0;
     end = λ r h.

@@ -22,11 +22,11 @@ use Rattle.bayer.specs.declared.frame.Frame.{Frame}
 use Rattle.bayer.specs.Colour.{same, partner}
 use Rattle.bayer.specs.Mirror.{mirror}
 use Rattle.bayer.specs.Parity.{startsGreen}
+use Rattle.bayer.specs.Lent.{Lent}
 use Rattle.bayer.proofs.ColourLaws.{partner-shares}
 use Rattle.bayer.proofs.ParityLaws.{starts-below}
 use Rattle.green_rule.specs.Greens.{greens, greenRow}
-use Rattle.green_rows.specs.Extended.{Lent}
-use Rattle.green_rows.proofs.GreenRow.{row-start, row-end}
+use Rattle.green_row.proofs.GreenRow.{row-start, row-end}
 use Rattle.fill_rows.specs.Rows.{ownIn, otherIn, opposite}
 use Rattle.fill_rows.proofs.FillRowLaws.{own-row-is, other-row-is}
 use Rattle.strip_rows.specs.Rows.{colourRow}
@@ -72,7 +72,7 @@ module _ {f : Frame} {first n v : ℕ} (lent : Lent f first n v) where
 abbrev handed : (w first : ℕ) (piece : List ℕ) (r : ℕ) → List ℕ
 handed w first piece r = take ((r - first) * w + w - (r - first) * w) (drop ((r - first) * w) piece)
 
-module _ (f : Frame) (first : ℕ) (piece : List ℕ) (v : ℕ) (lent : Lent f first (length piece) v) (known : f .layout ≤ 3) {o : ℕ} (starts : o ≡ startsGreen (f .layout) v) {g : List ℕ} (hg : g ≡ greenRow f first piece v) where
+module _ (f : Frame) (first : ℕ) (piece : List ℕ) (v : ℕ) (lent : Lent f first (length piece) v) {o : ℕ} (starts : o ≡ startsGreen (f .layout) v) {g : List ℕ} (hg : g ≡ greenRow f first piece v) where
   abbrev w : ℕ
   w = f .width
 
@@ -91,14 +91,14 @@ module _ (f : Frame) (first : ℕ) (piece : List ℕ) (v : ℕ) (lent : Lent f f
       × (AllAtMost 4095 (handed w first piece v))
   own-ready out fits small =
       rw (handed-long v (row-start lent, row-end lent))
-      (omega (arith, starts, starts-below (f .layout) v), omega (arith, lent .wide), lent .narrow, green-long v hg, fits, rw (handed-is {r = v} refl) (row-at-most w (v - first) piece small))
+      (omega (arith, starts, starts-below (f .layout) v), omega (arith, lent .frame .wide), lent .frame .narrow, green-long v hg, fits, rw (handed-is {r = v} refl) (row-at-most w (v - first) piece small))
 
   pub own-done : (k : Colour) {l : List ℕ} → same k (partner (f .layout) v) ≡ true
       → l ≡ table (ownIn (length (handed w first piece v)) o (handed w first piece v) g) (length (handed w first piece v)) → l ≡ colourRow f first piece k v
   own-done k e h =
       h
       ∙ rw (handed-long v (row-start lent, row-end lent), starts, handed-is {r = v} refl, hg, same-eq k _ e)
-      (own-row-is f first piece (greens f first piece) v known (omega (arith, lent .wide)) (omega (arith, lent .high)) (lent .row))
+      (own-row-is f first piece (greens f first piece) v (lent .frame .known) (omega (arith, lent .frame .wide)) (omega (arith, lent .frame .high)) (lent .row))
 
   -- to the other one
   module _ {ra rb : ℕ} (ea : ra ≡ mirror (f .height) (subℕ v 1)) (eb : rb ≡ mirror (f .height) (subℕ (v + 1) 0)) {ga gb : List ℕ}
@@ -108,7 +108,7 @@ module _ (f : Frame) (first : ℕ) (piece : List ℕ) (v : ℕ) (lent : Lent f f
         × ((length (handed w first piece ra) ≡ length g) × (length ga ≡ length g) × (length (handed w first piece rb) ≡ length g) × (length gb ≡ length g))
     other-ready out fits =
         rw (green-long v hg) (
-          (omega (arith, starts, starts-below (f .layout) v), omega (arith, lent .wide), lent .narrow, fits),
+          (omega (arith, starts, starts-below (f .layout) v), omega (arith, lent .frame .wide), lent .frame .narrow, fits),
           (handed-long ra (above-inside lent ea), green-long _ ha, handed-long rb (below-inside lent eb), green-long _ hb),
         )
 
@@ -117,5 +117,5 @@ module _ (f : Frame) (first : ℕ) (piece : List ℕ) (v : ℕ) (lent : Lent f f
     other-done k e n h =
         let below : rb ≡ mirror (f .height) (pos v +ℤ pos 1) = eb ∙ ap (mirror (f .height)) (sub-pos (v + 1) 0 (v + 1) (omega arith)) in
         h
-        ∙ rw (green-long v hg, starts, hg, handed-is ea, ha, handed-is below, hb, differ-eq k _ e n (partner-shares (f .layout) v known .0))
-        (other-row-is f first piece (greens f first piece) v known (omega (arith, lent .wide)) (omega (arith, lent .high)) (lent .row))
+        ∙ rw (green-long v hg, starts, hg, handed-is ea, ha, handed-is below, hb, differ-eq k _ e n (partner-shares (f .layout) v (lent .frame .known) .0))
+        (other-row-is f first piece (greens f first piece) v (lent .frame .known) (omega (arith, lent .frame .wide)) (omega (arith, lent .frame .high)) (lent .row))

@@ -13,9 +13,9 @@ use Rattle.bayer.specs.declared.colour.Colour.{Colour}
 use Rattle.bayer.specs.declared.frame.Frame.{Frame}
 use Rattle.bayer.specs.Condition.{FrameFits}
 use Rattle.bayer.specs.Mosaic.{continued}
+use Rattle.bayer.specs.Lent.{Lent}
 use Rattle.green_rule.specs.Greens.{greens, greenRow}
 use Rattle.demosaic.specs.Sample.{otherFrom}
-use Rattle.green_rows.specs.Extended.{Lent}
 
 -- row v of colour k, red or blue
 abbrev pub colourRow : Frame → (first : ℕ) (rows : List ℕ) → Colour → (v : ℕ) → List ℕ

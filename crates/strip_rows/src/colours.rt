@@ -8,9 +8,9 @@ ghost use Rattle.lists.specs.Bound.{AllAtMost};
 ghost use Rattle.bayer.specs.declared.colour.Colour.the-variants.{Red, Green, Blue};
 ghost use Rattle.bayer.specs.Colour.{same};
 ghost use Rattle.bayer.specs.Mirror.{mirror};
+ghost use Rattle.bayer.specs.Lent.{Lent};
 ghost use Rattle.green_rule.specs.Greens.{greenRow};
 ghost use Rattle.demosaic.specs.Sample.{planeRows};
-ghost use Rattle.green_rows.specs.Extended.{Lent};
 ghost use Rattle.strip_rows.specs.Rows.{colourRow, Readable, GreensOf, amongGreens};
 use bayer::colour::Colour;
 use bayer::colour::partner;
@@ -79,7 +79,7 @@ fn colour_row(
     gb: &[u16],
     out: &mut [u16],
 )
-    requires { ⌜ (Lent frame start (length (now piece)) v) × (frame .layout ≤ 3) × (AllAtMost 4095 (now piece)) × (same k Green ≡ false) ⌝ }
+    requires { ⌜ (Lent frame start (length (now piece)) v) × (AllAtMost 4095 (now piece)) × (same k Green ≡ false) ⌝ }
     requires { ⌜ (now g ≡ greenRow frame start (now piece) v) × (now ga ≡ greenRow frame start (now piece) (mirror (frame .height) (pos v -ℤ pos 1))) × (now gb ≡ greenRow frame start (now piece) (mirror (frame .height) (pos v +ℤ pos 1))) × (length (now out) ≡ frame .width) ⌝ }
     ensures { λ _. ⌜ now (out .exit) ≡ colourRow frame start (now (piece .entry)) k v ⌝ }
 {

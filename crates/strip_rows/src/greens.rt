@@ -1,8 +1,8 @@
 ghost use mathlib.Core.Path.{_≡_};
-ghost use Prim.Native.Nat.{ℕ, _+_, _*_, _≤_, _<_};
+ghost use Prim.Native.Nat.{ℕ, _+_, _*_, _<_};
 ghost use lib.ListN.{length};
 ghost use Rattle.lists.specs.Bound.{AllAtMost};
-ghost use Rattle.green_rows.specs.Extended.{Lent};
+ghost use Rattle.bayer.specs.Lent.{Lent};
 ghost use Rattle.green_blocks.specs.Room.{Room};
 ghost use Rattle.strip_rows.specs.Rows.{Readable, GreenBeside, GreensOf};
 use bayer::frame::Frame;
@@ -21,7 +21,7 @@ fn green_beside(
     f: &mut [i32],
     out: &mut [u16],
 )
-    requires { ⌜ ((v : ℕ) → v + 1 ≡ u → v < frame .height → Lent frame start (length (now piece)) v) × (frame .layout ≤ 3) × (AllAtMost 4095 (now piece)) ⌝ }
+    requires { ⌜ ((v : ℕ) → v + 1 ≡ u → v < frame .height → Lent frame start (length (now piece)) v) × (AllAtMost 4095 (now piece)) ⌝ }
     requires { ⌜ (Room (frame .width) (length (now x)) (length (now d)) (length (now g)) (length (now t)) (length (now f))) × (length (now out) ≡ frame .width) ⌝ }
     ensures { λ _. ⌜ GreenBeside frame start (now (piece .entry)) u (now (out .exit)) ⌝ }
 {

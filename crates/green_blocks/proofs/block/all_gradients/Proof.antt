@@ -9,7 +9,7 @@ use Rattle.lists.specs.Table.{table}
 use Rattle.lists.specs.Part.{part}
 use Rattle.lists.proofs.TableLaws.{length-table}
 use Rattle.lists.proofs.PartLaws.{put-rest}
-use Rattle.green_rows.specs.AlongAxis.{gradientIn}
+use Rattle.green_row.specs.AlongAxis.{gradientIn}
 use Rattle.green_blocks.proofs.block.all_gradients.Statement.{statement}
 use Rattle.green_blocks.proofs.block.all_gradients.Tie as tie
 

@@ -13,7 +13,7 @@ use Rattle.lists.proofs.PartLaws.{part-length, row-is}
 use Rattle.lists.proofs.BoundLaws.{all-part}
 use Rattle.gbtf.specs.Bounds.{mostDifference, mostGradient}
 use Rattle.gbtf.specs.Weights.{scale}
-use Rattle.green_rows.specs.GreenIn.{greenIn}
+use Rattle.green_row.specs.GreenIn.{greenIn}
 use Rattle.green_blocks.specs.Block.{greenRowIn}
 use Rattle.green_blocks.proofs.block.fuse_rows.Statement.{statement}
 use Rattle.green_blocks.proofs.block.fuse_rows.Tie as tie

@@ -12,7 +12,7 @@ use Rattle.green_blocks.proofs.block.green_block.Statement.{statement}
 use Rattle.green_blocks.proofs.block.green_block.Tie as tie
 
 narrow : (q : tie.Start) → q .args .s ≤ 4111
-narrow q = omega (arith, q .pre .0 .0 0 (q .pre .0 .1) .narrow)
+narrow q = omega (arith, q .pre .0 .0 0 (q .pre .0 .1) .frame .narrow)
 
 -- the places of the block's rows
 size : (q : tie.Start) → q .args .b * q .args .s ≤ 16444
@@ -74,7 +74,6 @@ module _ (c : tie.After-slice-known6) where
     lent = start .pre .0 .0;
     some = start .pre .0 .1;
     few = start .pre .0 .2;
-    known = start .pre .0 .3;
     odd = start .pre .1 .0 .0;
     wide = start .pre .1 .0 .1;
     narrow = start .pre .1 .0 .2;
@@ -171,7 +170,7 @@ fuse-rows-requires : tie.Need-fuse-rows-requires
 fuse-rows-requires c κs =
     let k = filled (c .before .before .before .before) in
     let h = start k .pre .1 .0 in
-    ready (buffers k) (start k .pre .0 .4) evenWeights (lit≤ tt) (lit≤ tt) (start k .args .out .now) (start k .args .t .now) (start k .args .f .now) (h .5) (h .3) (h .4)
+    ready (buffers k) (start k .pre .0 .3) evenWeights (lit≤ tt) (lit≤ tt) (start k .args .out .now) (start k .args .t .now) (start k .args .f .now) (h .5) (h .3) (h .4)
 
 same-length : tie.Need-same-length
 same-length c = omega arith

@@ -14,7 +14,7 @@ first-length l n h e = rw (sub-zero n) (length-take-le n l h ∙ e)
 
 -- at most four rows, of at most 4111 places each
 small : (q : tie.Start) → (q .args .b * q .args .s ≤ 4 * q .args .s) × (q .args .frame .width ≤ 4096)
-small q = (mul-le-mul-right (q .args .s) (q .pre .0 .2), q .pre .0 .0 0 (q .pre .0 .1) .narrow)
+small q = (mul-le-mul-right (q .args .s) (q .pre .0 .2), q .pre .0 .0 0 (q .pre .0 .1) .frame .narrow)
 
 -- the entry, and after the call
 abbrev start : tie.After-slice-known4 → tie.Start

@@ -10,8 +10,8 @@ use Rattle.lists.proofs.TableLaws.{length-table}
 use Rattle.lists.proofs.JoinedLaws.{joined-same, Handed, joined-none, joined-turns, joined-done}
 use Rattle.lists.proofs.PartLaws.{part-length}
 use Rattle.bayer.specs.declared.frame.Frame.{Frame}
+use Rattle.bayer.specs.Lent.{Lent}
 use Rattle.green_rule.specs.Greens.{greenRow}
-use Rattle.green_rows.specs.Extended.{Lent}
 use Rattle.green_blocks.proofs.blocks.green_rows.Statement.{statement}
 use Rattle.green_blocks.proofs.blocks.green_rows.Tie as tie
 
@@ -104,7 +104,7 @@ green-block-in-requires c κs =
     let z = k .before .before .stride in
     let r = q .pre .1 .1 .0 in
     let a = q .args in (
-      (lent-from (a .frame) (a .start) _ (a .a) (l .i) (e .block-size .result) (a .n) (inside e) (q .pre .0 .0), some e, omega (arith, e .block-size .ensures), q .pre .0 .1, q .pre .0 .2),
+      (lent-from (a .frame) (a .start) _ (a .a) (l .i) (e .block-size .result) (a .n) (inside e) (q .pre .0 .0), some e, omega (arith, e .block-size .ensures), q .pre .0 .1),
       (
         (z .ensures .0, z .ensures .1, z .ensures .2),
         (

@@ -13,7 +13,7 @@ use Rattle.lists.proofs.TableLaws.{length-table}
 use Rattle.lists.proofs.JoinedLaws.{part-within, Handed, joined-none, joined-turn, joined-done}
 use Rattle.lists.proofs.PartLaws.{part-length, row-is}
 use Rattle.bayer.specs.Mirror.{mirror}
-use Rattle.green_rows.specs.Extended.{column}
+use Rattle.green_row.specs.Extended.{column}
 use Rattle.green_blocks.proofs.BlockLent.{lent-start, lent-end}
 use Rattle.green_blocks.proofs.fetch.fetch.Statement.{statement}
 use Rattle.green_blocks.proofs.fetch.fetch.Tie as tie
@@ -56,7 +56,7 @@ add-mirror : tie.Need-add-mirror Inv-loop μ-loop
 add-mirror c =
     let q = c .before .before .before .before in
     let z = q .pre .0 .0 0 (q .pre .0 .1) in
-    omega (arith, z .row, z .low)
+    omega (arith, z .row, z .frame .low)
 
 mirror-requires : tie.Need-mirror-requires Inv-loop μ-loop
 mirror-requires c κs = tt
@@ -110,7 +110,7 @@ extend-requires c κs =
     let h = part-length (k .before .before .loop .r * a .s) (a .s) (k .before .before .loop .x) (omega (arith, writes (k .before), size (k .before))) in
     let q = k .before .before .before .before .before in
     let z = q .pre .0 .0 0 (q .pre .0 .1) in
-    rw (g, h) (omega (arith, z .wide, z .narrow))
+    rw (g, h) (omega (arith, z .frame .wide, z .frame .narrow))
 
 add-r : tie.Need-add-r Inv-loop μ-loop
 add-r c = omega arith

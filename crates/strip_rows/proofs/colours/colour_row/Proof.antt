@@ -3,7 +3,7 @@ use mathlib.Core.Path.{_≡_, sym, ap, _∙_}
 use native.Mathlib.Omega.{arith}
 use lib.ListN.{length}
 use Rattle.bayer.specs.Colour.{same, partner}
-use Rattle.green_rows.proofs.GreenRow.{row-start, row-end}
+use Rattle.green_row.proofs.GreenRow.{row-start, row-end}
 use Rattle.strip_rows.proofs.ColourRow.{Inside, above-inside, below-inside, own-ready, own-done, other-ready, other-done}
 use Rattle.strip_rows.proofs.colours.colour_row.Statement.{statement}
 use Rattle.strip_rows.proofs.colours.colour_row.Tie as tie
@@ -52,7 +52,7 @@ own-row-requires : tie.Need-own-row-requires
 own-row-requires c κs =
     let k = c .before .before .before in
     let s = start k in
-    own-ready (s .args .frame) (s .args .start) (s .args .piece .now) (s .args .v) (s .pre .0 .0) (s .pre .0 .1) (k .before .before .starts-green .ensures) (s .pre .1 .0) (s .args .out .now) (s .pre .1 .3) (s .pre .0 .2)
+    own-ready (s .args .frame) (s .args .start) (s .args .piece .now) (s .args .v) (s .pre .0 .0) (k .before .before .starts-green .ensures) (s .pre .1 .0) (s .args .out .now) (s .pre .1 .3) (s .pre .0 .1)
 
 same-length : tie.Need-same-length
 same-length c = omega arith
@@ -63,7 +63,7 @@ returns c =
     let t = r .before .before .before in
     let k = t .before in
     let s = start k in
-    own-done (s .args .frame) (s .args .start) (s .args .piece .now) (s .args .v) (s .pre .0 .0) (s .pre .0 .1) (k .before .before .starts-green .ensures) (s .pre .1 .0) (s .args .k)
+    own-done (s .args .frame) (s .args .start) (s .args .piece .now) (s .args .v) (s .pre .0 .0) (k .before .before .starts-green .ensures) (s .pre .1 .0) (s .args .k)
     (whether k ∙ t .if1 .taken) (r .own-row .ensures)
 
 -- ---- the other one
@@ -88,7 +88,7 @@ add-a-end : tie.Need-add-a-end
 add-a-end c = omega (arith, above c .1)
 
 add-mirror : tie.Need-add-mirror
-add-mirror c = let l = start (c .before .before) .pre .0 .0 in omega (arith, l .row, l .low)
+add-mirror c = let l = start (c .before .before) .pre .0 .0 in omega (arith, l .row, l .frame .low)
 
 mirror-requires-2 : tie.Need-mirror-requires-2
 mirror-requires-2 c κs = tt
@@ -131,7 +131,7 @@ other-row-requires c κs =
     let b = c .before .before .before in
     let k = b .before .before .before in
     let s = start k in
-    other-ready (s .args .frame) (s .args .start) (s .args .piece .now) (s .args .v) (s .pre .0 .0) (s .pre .0 .1) (k .before .before .starts-green .ensures) (s .pre .1 .0)
+    other-ready (s .args .frame) (s .args .start) (s .args .piece .now) (s .args .v) (s .pre .0 .0) (k .before .before .starts-green .ensures) (s .pre .1 .0)
     (b .before .mirror .ensures) (b .mirror2 .ensures) (s .pre .1 .1) (s .pre .1 .2) (s .args .out .now) (s .pre .1 .3)
 
 same-length-2 : tie.Need-same-length-2
@@ -144,8 +144,8 @@ returns-2 c =
     let e = b .before .before in
     let k = e .before in
     let s = start k in
-    other-done (s .args .frame) (s .args .start) (s .args .piece .now) (s .args .v) (s .pre .0 .0) (s .pre .0 .1) (k .before .before .starts-green .ensures) (s .pre .1 .0)
-    (b .before .mirror .ensures) (b .mirror2 .ensures) (s .pre .1 .1) (s .pre .1 .2) (s .args .k) (whether k ∙ e .if1 .left) (s .pre .0 .3) (r .other-row .ensures)
+    other-done (s .args .frame) (s .args .start) (s .args .piece .now) (s .args .v) (s .pre .0 .0) (k .before .before .starts-green .ensures) (s .pre .1 .0)
+    (b .before .mirror .ensures) (b .mirror2 .ensures) (s .pre .1 .1) (s .pre .1 .2) (s .args .k) (whether k ∙ e .if1 .left) (s .pre .0 .2) (r .other-row .ensures)
 
 pub colour-row-spec : {M : Type 1} → statement M
 colour-row-spec =

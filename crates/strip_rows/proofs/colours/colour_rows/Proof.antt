@@ -95,7 +95,7 @@ colour-row-requires c κs =
     let a = s .args in
     let z = s .pre .0 in
     let w = s .pre .1 in (
-      (z .lent _ (omega (arith, k .loop-test .taken, z .inside)) (omega arith) (omega (arith, k .loop-test .taken)), z .frame .known, z .range, s .pre .2),
+      (z .lent _ (omega (arith, k .loop-test .taken, z .inside)) (omega arith) (omega (arith, k .loop-test .taken)), z .range, s .pre .2),
       (
         among-here z w (l .i) (k .loop-test .taken) (g .before .before .green-of2 .ensures),
         among-above z w (l .i) (k .loop-test .taken) _ (g .before .before .before .before .mirror .ensures) (g .before .before .before .green-of .ensures),

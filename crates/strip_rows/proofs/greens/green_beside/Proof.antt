@@ -31,7 +31,7 @@ green-rows-requires : tie.Need-green-rows-requires
 green-rows-requires c κs =
     let s = start (c .before .before .before .before .before .before) in
     let z = s .pre .0 .0 (s .args .u - 1) (omega arith) (omega arith) in
-    ((λ i h. s .pre .0 .0 (s .args .u - 1 + i) (omega (arith, h)) (omega (arith, h)), s .pre .0 .1, s .pre .0 .2), ((omega arith, omega (arith, z .row, z .low), z .narrow), (s .pre .1 .0, omega (arith, s .pre .1 .1))))
+    ((λ i h. s .pre .0 .0 (s .args .u - 1 + i) (omega (arith, h)) (omega (arith, h)), s .pre .0 .1), ((omega arith, omega (arith, z .row, z .frame .low), z .frame .narrow), (s .pre .1 .0, omega (arith, s .pre .1 .1))))
 
 same-length : tie.Need-same-length
 same-length c = search needs

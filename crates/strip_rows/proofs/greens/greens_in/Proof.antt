@@ -34,7 +34,7 @@ green-rows-requires : tie.Need-green-rows-requires
 green-rows-requires c κs =
     let s = start c in
     let r = s .pre .0 in
-    ((λ i h. r .lent _ (omega (arith, h, r .inside)) (omega arith) (omega (arith, h)), r .frame .known, r .range), ((small s .0, small s .1, r .frame .narrow), (s .pre .1 .1, s .pre .1 .0 .0)))
+    ((λ i h. r .lent _ (omega (arith, h, r .inside)) (omega arith) (omega (arith, h)), r .range), ((small s .0, small s .1, r .frame .narrow), (s .pre .1 .1, s .pre .1 .0 .0)))
 
 green-beside-requires : tie.Need-green-beside-requires
 green-beside-requires c κs =
@@ -42,7 +42,7 @@ green-beside-requires c κs =
     let s = start (c₁ .before) in
     let r = s .pre .0 in
     let k = c₁ .green-rows .kept .1 .1 .1 .1 .1 in
-    ((λ v e h. r .lent v h (omega arith) (omega arith), r .frame .known, r .range), (room-kept (s .pre .1 .1) (k .0) (k .1 .0) (k .1 .1 .0) (k .1 .1 .1 .0) (k .1 .1 .1 .1 .0), s .pre .1 .0 .1))
+    ((λ v e h. r .lent v h (omega arith) (omega arith), r .range), (room-kept (s .pre .1 .1) (k .0) (k .1 .0) (k .1 .1 .0) (k .1 .1 .1 .0) (k .1 .1 .1 .1 .0), s .pre .1 .0 .1))
 
 add-green-beside : tie.Need-add-green-beside
 add-green-beside c = omega (arith, small (start (own (to-above (above c .before)) .before)))
@@ -58,7 +58,7 @@ green-beside-requires-2 c κs =
     let r = s .pre .0 in
     let k = c₁ .green-rows .kept .1 .1 .1 .1 .1 in
     let l = c₂ .green-beside .kept .1 .1 .1 .1 in (
-      (λ v e h. r .lent v h (omega arith) (omega arith), r .frame .known, r .range),
+      (λ v e h. r .lent v h (omega arith) (omega arith), r .range),
       (room-kept (s .pre .1 .1) (l .0 ∙ k .0) (l .1 .0 ∙ k .1 .0) (l .1 .1 .0 ∙ k .1 .1 .0) (l .1 .1 .1 .0 ∙ k .1 .1 .1 .0) (l .1 .1 .1 .1 .0 ∙ k .1 .1 .1 .1 .0), s .pre .1 .0 .2),
     )
 

@@ -1,0 +1,194 @@
+-- What the buffers of row v hold is the continued mosaic's: readings, differences and gradients. Assumes nothing.
+use mathlib.Core.Path.{_≡_, sym, _∙_, ap, ap₂}
+use mathlib.Core.Bool.{Bool}
+use mathlib.Core.List.{List}
+use Prim.Native.Nat.{ℕ, _+_, _*_, _-_, _/_, _%_, _≤_, _<_}
+use native.Mathlib.Nat.{mul-le-mul-right, div-add-mod'}
+use native.Mathlib.Omega.{arith}
+use lib.Dec.{lit≤}
+use lib.IntN.{ℤ, pos, subℕ, _+ℤ_, _-ℤ_}
+use lib.ListN.{length, getD, length-drop}
+use lib.Seq.{length-take-le}
+use Rattle.whole.proofs.Pairs.{natₚ, subₚ, _+ₚ_, _-ₚ_, eq-by}
+use Rattle.lists.specs.Part.{rowOf}
+use Rattle.lists.specs.Table.{table, joined}
+use Rattle.lists.proofs.TableLaws.{length-table, getD-table}
+use Rattle.lists.proofs.JoinedLaws.{getD-joined}
+use Rattle.bayer.specs.declared.frame.Frame.{Frame}
+use Rattle.bayer.specs.Mirror.{mirror}
+use Rattle.bayer.specs.Mosaic.{Mosaic, continued, isGreen}
+use Rattle.bayer.specs.Parity.{isOdd, startsGreen}
+use Rattle.bayer.specs.Lent.{Lent}
+use Rattle.bayer.proofs.MirrorLaws.{mirror-near}
+use Rattle.bayer.proofs.ParityLaws.{place-green, starts-below}
+use Rattle.gbtf.specs.Difference.{difference, gradient}
+use Rattle.gbtf.specs.GreenAt.{differenceAlong, gradientAlong, DH, DV, GH, GV}
+use Rattle.green_row.specs.AlongAxis.{differenceIn, gradientIn}
+use Rattle.green_row.specs.Extended.{extendedRow}
+
+-- ---- positions: place n is position n − b
+
+pub ahead : (n b e : ℕ) → subℕ n b +ℤ pos e ≡ subℕ (n + e) b
+ahead n b e = eq-by (subₚ n b +ₚ natₚ e) (subₚ (n + e) b) (omega arith)
+
+behind : (n b e : ℕ) → subℕ (n + e) b -ℤ pos e ≡ subℕ n b
+behind n b e = eq-by (subₚ (n + e) b -ₚ natₚ e) (subₚ n b) (omega arith)
+
+pub at-place : (n b : ℕ) → subℕ (n + b) b ≡ pos n
+at-place n b = eq-by (subₚ (n + b) b) (natₚ n) (omega arith)
+
+-- ---- along a line, in a row or in a column: position p + 2 − b stands at place k + 2 step
+
+module _ (step odd : ℕ) (x : List ℕ) (k : ℕ) (G : ℤ → Bool) (L : ℤ → ℕ) (p b : ℕ) where
+  difference-along : ((e : ℕ) → e ≤ 4 → getD x (k + e * step) 0 ≡ L (subℕ (p + e) b)) → isOdd (k + odd) ≡ G (subℕ (p + 2) b)
+      → differenceIn step odd x k ≡ differenceAlong G L (subℕ (p + 2) b)
+  difference-along read green = λ t. difference (green t) (centre t) (left t) (right t) (first t) (last t)
+    where
+      centre : getD x (k + 2 * step) 0 ≡ L (subℕ (p + 2) b)
+      centre = read 2 (lit≤ tt)
+
+      left : getD x (k + step) 0 ≡ L (subℕ (p + 2) b -ℤ pos 1)
+      left = let a : k + step ≡ k + 1 * step = omega arith in let c : p + 1 + 1 ≡ p + 2 = omega arith in
+          ap (λ n. getD x n 0) a ∙ read 1 (lit≤ tt) ∙ ap L (sym (behind (p + 1) b 1) ∙ ap (λ n. subℕ n b -ℤ pos 1) c)
+
+      right : getD x (k + 3 * step) 0 ≡ L (subℕ (p + 2) b +ℤ pos 1)
+      right = let c : p + 3 ≡ p + 2 + 1 = omega arith in read 3 (lit≤ tt) ∙ ap L (ap (λ n. subℕ n b) c ∙ sym (ahead (p + 2) b 1))
+
+      first : getD x k 0 ≡ L (subℕ (p + 2) b -ℤ pos 2)
+      first = let a : k ≡ k + 0 * step = omega arith in let c : p + 0 ≡ p = omega arith in
+          ap (λ n. getD x n 0) a ∙ read 0 (lit≤ tt) ∙ ap L (ap (λ n. subℕ n b) c ∙ sym (behind p b 2))
+
+      last : getD x (k + 4 * step) 0 ≡ L (subℕ (p + 2) b +ℤ pos 2)
+      last = let c : p + 4 ≡ p + 2 + 2 = omega arith in read 4 (lit≤ tt) ∙ ap L (ap (λ n. subℕ n b) c ∙ sym (ahead (p + 2) b 2))
+
+gradient-along : (step : ℕ) (d : List ℤ) (k : ℕ) (D : ℤ → ℤ) (p b : ℕ) → getD d k (pos 0) ≡ D (subℕ p b) → getD d (k + 2 * step) (pos 0) ≡ D (subℕ (p + 2) b)
+    → gradientIn step d k ≡ gradientAlong D (subℕ (p + 1) b)
+gradient-along step d k D p b e f =
+    let c : p + 2 ≡ p + 1 + 1 = omega arith in
+    ap₂ gradient (e ∙ ap D (sym (behind p b 1))) (f ∙ ap D (ap (λ n. subℕ n b) c ∙ sym (ahead (p + 1) b 1)))
+
+pub odd-row : (r s : ℕ) → s % 2 ≡ 1 → (r * s) % 2 ≡ r % 2
+odd-row r s h = let t : s ≡ s / 2 * 2 + 1 = omega (arith, div-add-mod' s 2) in rw t (parity r (s / 2))
+  where
+    parity : (r t : ℕ) → (r * (t * 2 + 1)) % 2 ≡ r % 2
+    parity r t = let e : r * (t * 2 + 1) ≡ r * t * 2 + r = omega arith in rw e (omega arith)
+
+-- ---- the buffers of row v: a frame's readings, rows s places wide
+
+pub record RowPlaces (f : Frame) (first : ℕ) (rows : List ℕ) (v s : ℕ) : Type 0 where
+  pub lent : Lent f first (length rows) v
+  pub wide : f .width + 14 ≤ s
+  pub narrow : s ≤ f .width + 15
+  pub odd : s % 2 ≡ 1
+
+module _ {f : Frame} {first : ℕ} {rows : List ℕ} {v s : ℕ} (z : RowPlaces f first rows v s) where
+  abbrev m : Mosaic
+  m = continued f first rows
+
+  abbrev g : ℕ
+  g = startsGreen (f .layout) v
+
+  -- place (r, c) is row v − 6 + r and column c − 7
+  abbrev Row : ℕ → ℤ
+  Row r = subℕ (v + r) 6
+
+  abbrev Col : ℕ → ℤ
+  Col c = subℕ c 7
+
+  row-length : (r : ℕ) → r < 13 → length (rowOf (f .width) (mirror (f .height) (Row r) - first) rows) ≡ f .width
+  unfolding rowOf
+  row-length r h = length-take-le (f .width) _ (simp length-drop (omega (arith, z .lent .end r h)))
+
+  pub reading-at : (r c : ℕ) → r < 13 → c < s → getD (joined (extendedRow f first rows v s) 13) (r * s + c) 0 ≡ m .reading (Row r) (Col c)
+  reading-at r c h k =
+      getD-joined (extendedRow f first rows v s) s (λ i. length-table _ s) 13 r c 0 h k ∙ getD-table _ s c 0 k
+      ∙ ap (λ n. getD (rowOf (f .width) (mirror (f .height) (Row r) - first) rows) (mirror n (Col c)) 0) (row-length r h)
+
+  -- column 0 and this row's places decide which are green
+  pub green-at : (r c o : ℕ) → r < 13 → c ≤ f .width + 13 → o % 2 ≡ (r + c + 1 + g) % 2 → isOdd o ≡ isGreen m (Row r) (Col c)
+  green-at r c o h k e =
+      place-green (f .layout) (f .height) (f .width) v (v + r) 6 c 7 o (z .lent .frame .known)
+      (mirror-near (f .height) (v + r) 6 (omega (arith, z .lent .frame .high)) (omega (arith, z .lent .frame .high, z .lent .row)))
+      (mirror-near (f .width) c 7 (omega (arith, z .lent .frame .wide)) (omega (arith, z .lent .frame .wide)))
+      (e ∙ twice r c g v)
+    where
+      twice : (r c g v : ℕ) → (r + c + 1 + g) % 2 ≡ (v + g + (v + r) + 6 + c + 7) % 2
+      twice r c g v = omega arith
+
+  -- hx: from two places before row v − 1 to two places after row v + 1; dh: their differences along the row
+  module _ (x hx : List ℕ) (x-at : (r c : ℕ) → r < 13 → c < s → getD x (r * s + c) 0 ≡ m .reading (Row r) (Col c)) (hx-at : (k : ℕ) → k < 3 * s + 4 → getD hx k 0 ≡ getD x (5 * s - 2 + k) 0) where
+    abbrev dh : List ℤ
+    dh = table (differenceIn 1 g hx) (3 * s)
+
+    pub DH-at : (r c : ℕ) → r < 3 → c + 4 < s → getD dh (r * s + (c + 2)) (pos 0) ≡ DH m (Row (5 + r)) (Col (c + 2))
+    unfolding DH
+    DH-at r c h k =
+        getD-table (differenceIn 1 g hx) (3 * s) (r * s + (c + 2)) (pos 0) (omega (arith, mul-le-mul-right s h))
+        ∙ difference-along 1 g hx (r * s + (c + 2)) (λ z. isGreen m (Row (5 + r)) z) (λ z. m .reading (Row (5 + r)) z) c 7 read
+        (green-at (5 + r) (c + 2) (r * s + (c + 2) + g) (omega arith) (omega arith) (parity r c g (odd-row r s (z .odd))))
+      where
+        read : (e : ℕ) → e ≤ 4 → getD hx (r * s + (c + 2) + e * 1) 0 ≡ m .reading (Row (5 + r)) (Col (c + e))
+        read e l =
+            let a : 5 * s - 2 + (r * s + (c + 2) + e * 1) ≡ (5 + r) * s + (c + e) = omega arith in
+            hx-at (r * s + (c + 2) + e * 1) (omega (arith, mul-le-mul-right s h)) ∙ ap (λ n. getD x n 0) a ∙ x-at (5 + r) (c + e) (omega arith) (omega arith)
+
+        parity : (r c g : ℕ) → (r * s) % 2 ≡ r % 2 → (r * s + (c + 2) + g) % 2 ≡ (5 + r + (c + 2) + 1 + g) % 2
+        parity r c g e = omega arith
+
+    abbrev gh : List ℕ
+    gh = table (gradientIn 1 dh) (3 * s - 2)
+
+    pub GH-at : (r c : ℕ) → r < 3 → c + 6 < s → getD gh (r * s + (c + 2)) 0 ≡ GH m (Row (5 + r)) (Col (c + 3))
+    unfolding GH
+    GH-at r c h k =
+        let a : r * s + (c + 2) + 2 * 1 ≡ r * s + (c + 2 + 2) = omega arith in
+        let b : c + 2 + 1 ≡ c + 3 = omega arith in
+        getD-table (gradientIn 1 dh) (3 * s - 2) (r * s + (c + 2)) 0 (omega (arith, mul-le-mul-right s h))
+        ∙ gradient-along 1 dh (r * s + (c + 2)) (λ z. DH m (Row (5 + r)) z) (c + 2) 7 (DH-at r c h (omega arith)) (ap (λ n. getD dh n (pos 0)) a ∙ DH-at r (c + 2) h (omega arith))
+        ∙ ap (λ n. gradientAlong (λ z. DH m (Row (5 + r)) z) (Col n)) b
+
+  -- dv: the differences along the column of rows v − 4 to v + 4; dvs those of rows v − 3 to v + 3
+  module _ (x : List ℕ) (x-at : (r c : ℕ) → r < 13 → c < s → getD x (r * s + c) 0 ≡ m .reading (Row r) (Col c)) (dvs : List ℤ) where
+    abbrev dv : List ℤ
+    dv = table (differenceIn s (1 - g) x) (9 * s)
+
+    pub DV-at : (r c : ℕ) → r < 9 → c < s → c ≤ f .width + 13 → getD dv (r * s + c) (pos 0) ≡ DV m (Row (r + 2)) (Col c)
+    unfolding DV
+    DV-at r c h k l =
+        getD-table (differenceIn s (1 - g) x) (9 * s) (r * s + c) (pos 0) (omega (arith, mul-le-mul-right s h))
+        ∙ difference-along s (1 - g) x (r * s + c) (λ z. isGreen m z (Col c)) (λ z. m .reading z (Col c)) (v + r) 6 read
+        (green-at (r + 2) c (r * s + c + (1 - g)) (omega arith) l (parity r c (starts-below (f .layout) v) (odd-row r s (z .odd))) ∙ ap (λ n. isGreen m (subℕ n 6) (Col c)) place)
+        ∙ ap (λ n. differenceAlong (λ z. isGreen m z (Col c)) (λ z. m .reading z (Col c)) (subℕ n 6)) (sym place)
+      where
+        place : v + (r + 2) ≡ v + r + 2
+        place = omega arith
+
+        read : (e : ℕ) → e ≤ 4 → getD x (r * s + c + e * s) 0 ≡ m .reading (subℕ (v + r + e) 6) (Col c)
+        read e l =
+            let a : r * s + c + e * s ≡ (r + e) * s + c = omega arith in
+            let b : v + (r + e) ≡ v + r + e = omega arith in
+            ap (λ n. getD x n 0) a ∙ x-at (r + e) c (omega arith) k ∙ ap (λ n. m .reading (subℕ n 6) (Col c)) b
+
+        parity : (r c : ℕ) → g ≤ 1 → (r * s) % 2 ≡ r % 2 → (r * s + c + (1 - g)) % 2 ≡ (r + 2 + c + 1 + g) % 2
+        parity r c h e = omega arith
+
+    abbrev gv : List ℕ
+    gv = table (gradientIn s dvs) (5 * s)
+
+    module _ (dvs-at : (k : ℕ) → k < 7 * s → getD dvs k (pos 0) ≡ getD dv (s + k) (pos 0)) where
+      DV-at-inner : (r c : ℕ) → r < 7 → c < s → c ≤ f .width + 13 → getD dvs (r * s + c) (pos 0) ≡ DV m (subℕ (v + (r + 3)) 6) (Col c)
+      DV-at-inner r c h k l =
+          let a : s + (r * s + c) ≡ (r + 1) * s + c = omega arith in
+          let b : r + 1 + 2 ≡ r + 3 = omega arith in
+          dvs-at (r * s + c) (omega (arith, mul-le-mul-right s h)) ∙ ap (λ n. getD dv n (pos 0)) a ∙ DV-at (r + 1) c (omega arith) k l ∙ ap (λ n. DV m (Row n) (Col c)) b
+
+      pub GV-at : (r c : ℕ) → r < 5 → c < s → c ≤ f .width + 13 → getD gv (r * s + c) 0 ≡ GV m (Row (r + 4)) (Col c)
+      unfolding GV
+      GV-at r c h k l =
+          let a : r * s + c + 2 * s ≡ (r + 2) * s + c = omega arith in
+          let b : v + (r + 2 + 3) ≡ v + (r + 3) + 2 = omega arith in
+          let d : v + (r + 3) + 1 ≡ v + (r + 4) = omega arith in
+          getD-table (gradientIn s dvs) (5 * s) (r * s + c) 0 (omega (arith, mul-le-mul-right s h))
+          ∙ gradient-along s dvs (r * s + c) (λ z. DV m z (Col c)) (v + (r + 3)) 6 (DV-at-inner r c (omega arith) k l)
+          (ap (λ n. getD dvs n (pos 0)) a ∙ DV-at-inner (r + 2) c (omega arith) k l ∙ ap (λ n. DV m (subℕ n 6) (Col c)) b)
+          ∙ ap (λ n. gradientAlong (λ z. DV m z (Col c)) (subℕ n 6)) d

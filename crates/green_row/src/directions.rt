@@ -1,0 +1,48 @@
+ghost use mathlib.Core.Path.{_≡_};
+ghost use Prim.Native.Nat.{_+_, _*_, _≤_, _<_};
+ghost use lib.ListN.{length};
+ghost use Rattle.lists.specs.Table.{table, joined};
+ghost use Rattle.lists.specs.Bound.{AllAtMost, AllWithin};
+ghost use Rattle.gbtf.specs.Bounds.{mostDifference, mostGradient};
+ghost use Rattle.gbtf.specs.Direction.{total};
+ghost use Rattle.green_row.specs.Directions.{reversed, sumIn, fiveIn};
+use crate::sums::fives;
+use crate::sums::sums;
+
+// The weights for five differences that are taken the other way round.
+fn reversed(w: [u8; 5]) -> [u8; 5]
+    ensures { λ r. ⌜ r ≡ reversed w ⌝ }
+{
+    [w[4], w[3], w[2], w[1], w[0]]
+}
+
+// The direction sums of a row of w readings: all to the east, then west, north and south.
+pub fn row_sums(s: usize, gh: &[u32], gv: &[u32], w: usize, t: &mut [u32])
+    requires { ⌜ (w + 14 ≤ s) × (s < 4112) × (length (now gh) + 2 ≡ 3 * s) × (length (now gv) ≡ 5 * s) × (length (now t) ≡ 4 * w) ⌝ }
+    requires { ⌜ (AllAtMost mostGradient (now gh)) × (AllAtMost mostGradient (now gv)) ⌝ }
+    ensures { λ _. ⌜ now (t .exit) ≡ joined (λ k. table (sumIn s (now (gh .entry)) (now (gv .entry)) k) w) 4 ⌝ }
+{
+    let two = 2 * w;
+    let three = 3 * w;
+    let four = 4 * w;
+    sums(gh, s, 6, &mut t[0..w]);
+    sums(gh, s, 4, &mut t[w..two]);
+    sums(gv, s, 6, &mut t[two..three]);
+    sums(gv, s, 2 * s + 6, &mut t[three..four]);
+}
+
+// The five-sums of a row of w readings, in the same order.
+pub fn row_fives(weights: [u8; 5], s: usize, dh: &[i32], dv: &[i32], w: usize, f: &mut [i32])
+    requires { ⌜ (w + 14 ≤ s) × (s < 4112) × (length (now dh) ≡ 3 * s) × (length (now dv) ≡ 9 * s) × (length (now f) ≡ 4 * w) ⌝ }
+    requires { ⌜ (AllWithin mostDifference (now dh)) × (AllWithin mostDifference (now dv)) × (total weights ≤ 128) ⌝ }
+    ensures { λ _. ⌜ now (f .exit) ≡ joined (λ k. table (fiveIn weights s (now (dh .entry)) (now (dv .entry)) k) w) 4 ⌝ }
+{
+    let back = reversed(weights);
+    let two = 2 * w;
+    let three = 3 * w;
+    let four = 4 * w;
+    fives(weights, dh, 1, s + 7, &mut f[0..w]);
+    fives(back, dh, 1, s + 3, &mut f[w..two]);
+    fives(back, dv, s, 7, &mut f[two..three]);
+    fives(weights, dv, s, 4 * s + 7, &mut f[three..four]);
+}
