@@ -16,7 +16,7 @@ use Rattle.bayer.proofs.ColourLaws.{parity-colour, mirror-colour, cells
 
 -- whether the first cell of a layout is green
 abbrev corner : (layout : ℕ) → ℕ
-corner l = cond (same (colourAt l 0 0) Green) 1 0
+corner l = startsGreen l 0
 
 abbrev is : (l i j : ℕ) → Bool
 is l i j = same (colourAt l i j) Green

@@ -15,12 +15,12 @@ abbrev pub sizeCases : (width height : ℕ) → List Case
 sizeCases width height = (sizeOutOfRange when (outsideSizes width || outsideSizes height)) ∷ []
 
 -- 2: a layout above 3
-abbrev pub unknown : (layout : ℕ) → Bool
-unknown layout = ltb 3 layout
+abbrev pub outsideLayouts : (layout : ℕ) → Bool
+outsideLayouts layout = ltb 3 layout
 
 -- both, of a frame description
 abbrev pub frameCases : Frame → List Case
-frameCases f = sizeCases (f .width) (f .height) ++ (unknownLayout when unknown (f .layout)) ∷ []
+frameCases f = sizeCases (f .width) (f .height) ++ (unknownLayout when outsideLayouts (f .layout)) ∷ []
 
 -- a frame that neither is refused for
 pub record FrameFits (f : Frame) : Type 0 where

@@ -67,6 +67,9 @@ sample f first rows k i j = sampleFrom f (continued f first rows) (greens f firs
 unfoldable pub planeRows : Frame → (first : ℕ) (rows : List ℕ) (a n : ℕ) (k : Colour) → List ℕ
 planeRows f first rows a n k = joined (λ i. table (λ j. sample f first rows k (a + i) j) (f .width)) n
 
--- the whole plane
+-- those rows of the whole frame, and all of its rows
+abbrev pub frameRows : Frame → (readings : List ℕ) (a n : ℕ) (k : Colour) → List ℕ
+frameRows f readings a n k = planeRows f 0 readings a n k
+
 abbrev pub framePlane : Frame → (readings : List ℕ) (k : Colour) → List ℕ
-framePlane f readings k = planeRows f 0 readings 0 (f .height) k
+framePlane f readings k = frameRows f readings 0 (f .height) k

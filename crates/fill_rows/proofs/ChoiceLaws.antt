@@ -7,7 +7,7 @@ use native.Mathlib.Omega.{arith}
 use lib.IntN.{ℤ, pos}
 use Rattle.whole.specs.Clamp.{clamp}
 use Rattle.demosaic.specs.Fill.{sumOf, unclamped}
-use Rattle.fill_rows.specs.Rows.{colourDifferenceAt}
+use Rattle.fill_rows.specs.FillRow.{colourDifferenceAt}
 
 -- what was read at column p is what stands at column q
 pub read-at : (x g : List ℕ) {r : ℤ} (p q : ℕ) → r ≡ colourDifferenceAt x g p → p ≡ q → r ≡ colourDifferenceAt x g q

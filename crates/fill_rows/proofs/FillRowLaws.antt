@@ -11,7 +11,7 @@ use Rattle.lists.specs.Table.{table}
 use Rattle.lists.proofs.TableLaws.{getD-table, table-same}
 use Rattle.bayer.specs.declared.colour.Colour.{Colour}
 use Rattle.bayer.specs.declared.frame.Frame.{Frame}
-use Rattle.bayer.specs.Colour.{same, partner}
+use Rattle.bayer.specs.Colour.{same, partner, opposite}
 use Rattle.bayer.specs.Mirror.{mirror}
 use Rattle.bayer.specs.Mosaic.{Mosaic, continued, isGreen}
 use Rattle.bayer.specs.Parity.{isOdd, startsGreen}
@@ -19,7 +19,7 @@ use Rattle.bayer.proofs.MirrorLaws.{mirror-inside}
 use Rattle.bayer.proofs.ColourLaws.{mirror-colour}
 use Rattle.demosaic.specs.Fill.{colourDifference, sumOf, fill}
 use Rattle.demosaic.specs.Sample.{Pixel, inRow, inColumn, diagonal, neighbours, colourDifferences, otherFrom}
-use Rattle.fill_rows.specs.Rows.{leftOf, rightOf, colourDifferenceAt, ownIn, otherIn, opposite}
+use Rattle.fill_rows.specs.FillRow.{leftOf, rightOf, colourDifferenceAt, ownIn, otherIn}
 use Rattle.fill_rows.proofs.SideLaws.{Read, at-read, before-read, after-read, next-read}
 use Rattle.fill_rows.proofs.RowColours.{looks, shared, row-colours, after-odd}
 

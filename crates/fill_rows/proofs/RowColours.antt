@@ -8,10 +8,9 @@ use borrow.Author.Tests.{eqb-true}
 use lib.Dec.{eqb}
 use Rattle.bayer.specs.declared.colour.Colour.{Colour}
 use Rattle.bayer.specs.declared.colour.Colour.the-variants.{Green}
-use Rattle.bayer.specs.Colour.{colours, colourAt, same, partner}
+use Rattle.bayer.specs.Colour.{colours, colourAt, same, partner, opposite}
 use Rattle.bayer.specs.Parity.{isOdd, startsGreen}
 use Rattle.bayer.proofs.ColourLaws.{cells, by-layout}
-use Rattle.fill_rows.specs.Rows.{opposite}
 
 -- whether a colour is green, is p, is its opposite
 abbrev pub looks : (p c : Colour) → Bool × Bool × Bool

@@ -6,7 +6,7 @@ ghost use lib.ListN.{length};
 ghost use Rattle.lists.specs.Table.{table};
 ghost use Rattle.lists.specs.Bound.{AllAtMost};
 ghost use Rattle.bayer.specs.Parity.{isOdd};
-ghost use Rattle.fill_rows.specs.Rows.{leftOf, rightOf, colourDifferenceAt, ownIn, otherIn};
+ghost use Rattle.fill_rows.specs.FillRow.{leftOf, rightOf, colourDifferenceAt, ownIn, otherIn};
 use bayer::mirror::mirror;
 use demosaic::fill::colour_difference;
 use demosaic::fill::diagonal;

@@ -15,13 +15,13 @@ use Rattle.bayer.specs.Planes.{Planes}
 use Rattle.demosaic.specs.Sample.{framePlane}
 use Rattle.strip.specs.Strip.{asked, Promise}
 use Rattle.strip.proofs.WholeFrame.{whole-plane}
-use Rattle.plane_text.specs.Text.{lines, refusalLine, answered}
+use Rattle.plane_text.specs.Text.{lines, refusalLine, printed}
 use Rattle.plane_text.proofs.LineLaws.{same-lines, refused-line}
 use Rattle.frame_file.specs.FrameFile.{frameOf, readings, malformed, fileNumber, output}
 use Rattle.frame_file.proofs.FileLaws.{torn, number-is}
 
 pub torn-line : (bytes : List ℕ) → malformed bytes ≡ true → output bytes ≡ refusalLine 8
-unfolding output answered
+unfolding output printed
 torn-line bytes e = rw (torn bytes e)
 
 -- the first bytes of a file decide what is printed of it, if they are more than a file may have
@@ -53,5 +53,5 @@ module _ (bytes : List ℕ) (well : malformed bytes ≡ false) (f : Frame) (e : 
   filled z k = whole-plane f piece p z k ∙ rw (e, m)
 
   pub delivered : number ≡ 0 → output bytes ≡ lines after
-  unfolding output answered
+  unfolding output printed
   delivered z = rw (← numbered, z) (sym (same-lines _ _ (filled z Red) (filled z Green) (filled z Blue)))

@@ -10,7 +10,7 @@ use Rattle.bayer.specs.Frame.{frame}
 use Rattle.bayer.specs.Condition.{frameCases, rangeCases}
 use Rattle.bayer.specs.Refusal.{_when_, malformedFile, firstOf}
 use Rattle.demosaic.specs.Sample.{framePlane}
-use Rattle.plane_text.specs.Text.{lines, answered}
+use Rattle.plane_text.specs.Text.{lines, printed}
 
 -- a number of n bytes from byte `at` on, big-endian
 unfoldable pub bigEndian : (bytes : List ℕ) (at n : ℕ) → ℕ
@@ -45,4 +45,4 @@ fileNumber bytes = firstOf ((malformedFile when malformed bytes) ∷ (frameCases
 
 -- WHAT THE PROGRAM PRINTS, for any bytes
 unfoldable pub output : (bytes : List ℕ) → List ℕ
-output bytes = answered (fileNumber bytes) (lines (framePlane (frameOf bytes) (readings bytes)))
+output bytes = printed (fileNumber bytes) (lines (framePlane (frameOf bytes) (readings bytes)))

@@ -1,5 +1,5 @@
 -- What green's code works out is inside 64 bits. Assumes nothing.
-use Prim.Native.Nat.{ℕ, _*_, _^_, _≤_, _<_}
+use Prim.Native.Nat.{ℕ, _*_, _≤_, _<_}
 use native.Mathlib.Nat.{le-refl, le-trans, lt-of-le-of-lt, mul-le-mul, mul-le-mul-left, mul-le-mul-right, mul-pos}
 use native.Mathlib.Omega.{arith}
 use lib.Dec.{lit<}
@@ -8,6 +8,7 @@ use mir.Syntax.{w64}
 use Rattle.whole.proofs.FloorLaws.{floor-within}
 use Rattle.whole.proofs.Signed.{lit, nat, int, _⊕_, _⊗_, within}
 use Rattle.gbtf.specs.declared.direction.Direction.{Direction}
+use Rattle.gbtf.specs.Weights.{scale}
 use Rattle.gbtf.specs.Bounds.{mostSum}
 use Rattle.gbtf.specs.Direction.{guardedSum}
 use Rattle.gbtf.specs.Fusion.{fusion}
@@ -16,8 +17,8 @@ use Rattle.gbtf.specs.Machine.{Fitting}
 fitting-to : (K B : ℕ) (d : Direction) → natAbs (d .five) ≤ 2097152 → d .sum ≤ B → 4 ≤ B → K * (B * B) < 18446744073709551616 → Fitting K d
 fitting-to K B d h g b l = let m : guardedSum d ≤ B = omega arith in record { five = h; square = lt-of-le-of-lt (mul-le-mul-left K (mul-le-mul m m)) l }
 
-pub fitting : (d : Direction) → natAbs (d .five) ≤ 2097152 → d .sum ≤ mostSum → Fitting (2 ^ 27) d
-fitting d h g = fitting-to (2 ^ 27) mostSum d h g (omega arith) (lit< tt)
+pub fitting : (d : Direction) → natAbs (d .five) ≤ 2097152 → d .sum ≤ mostSum → Fitting scale d
+fitting d h g = fitting-to scale mostSum d h g (omega arith) (lit< tt)
 
 -- N is a sum of S five-sums, each within 2097152: the quotient is within 16777216
 module _ (N : ℤ) (S T : ℕ) (hN : natAbs N ≤ 2097152 * S) (hS : 0 < S) (hT : 0 < T) where

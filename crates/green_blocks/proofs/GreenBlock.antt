@@ -20,6 +20,7 @@ use Rattle.bayer.specs.Mirror.{mirror}
 use Rattle.bayer.specs.Mosaic.{continued}
 use Rattle.bayer.specs.Parity.{isOdd, startsGreen}
 use Rattle.bayer.specs.Lent.{Lent}
+use Rattle.bayer.proofs.LentLaws.{row-inside}
 use Rattle.bayer.proofs.ParityLaws.{odd-by, starts-below, starts-next}
 use Rattle.gbtf.specs.Bounds.{mostDifference, mostGradient}
 use Rattle.gbtf.specs.Difference.{difference, gradient}
@@ -28,9 +29,9 @@ use Rattle.gbtf.specs.GreenAt.{greenAt}
 use Rattle.green_row.specs.AlongAxis.{differenceIn, gradientIn}
 use Rattle.green_row.specs.GreenIn.{greenIn}
 use Rattle.green_row.specs.Extended.{column, extendedRow}
-use Rattle.green_row.proofs.BoundLaws.{extended-at-most, differences-within, gradients-at-most}
+use Rattle.green_row.proofs.BufferBounds.{extended-at-most, differences-within, gradients-at-most}
 use Rattle.green_row.proofs.RowLaws.{odd-row}
-use Rattle.green_row.proofs.GreenRow.{row-start, row-end, RowBuffers, fused}
+use Rattle.green_row.proofs.GreenRow.{RowBuffers, fused}
 use Rattle.green_blocks.specs.Block.{greenRowIn}
 
 -- the same readings give the same difference, at place k of x and place j of y
@@ -182,13 +183,13 @@ module _ {f : Frame} {first : ℕ} {rows : List ℕ} {v b s o : ℕ} {x : List �
   own = take (at + b * f .width - at) (drop at rows)
 
   pub block-start : first ≤ v
-  block-start = rw add-zero at (row-start (z .lent 0 (z .some)))
+  block-start = rw add-zero at (row-inside (z .lent 0 (z .some)) .0)
 
   pub block-end : at + b * f .width ≤ length rows
   block-end =
       let a : v + (b - 1) - first ≡ v - first + (b - 1) = omega (arith, block-start, z .some) in
       let c : b * f .width ≡ (b - 1) * f .width + f .width = (let e : b ≡ b - 1 + 1 = omega (arith, z .some) in ap (λ n. n * f .width) e ∙ rw (add-mul, one-mul)) in
-      omega (arith, c, rw (a, add-mul) at (row-end (z .lent (b - 1) (omega (arith, z .some)))))
+      omega (arith, c, rw (a, add-mul) at (row-inside (z .lent (b - 1) (omega (arith, z .some))) .1))
 
   own-row : (i : ℕ) → i < b → rowOf (f .width) i own ≡ rowOf (f .width) (v + i - first) rows
   unfolding rowOf

@@ -21,7 +21,7 @@ use Rattle.gbtf.proofs.PixelBounds.{five-sum-within}
 use Rattle.gbtf.proofs.GreenLocal.{five-sum-same}
 use Rattle.green_row.specs.Directions.{windowIn, after, before, reversed, sumIn, fiveIn, directionIn, directionFrom}
 use Rattle.green_row.specs.GreenIn.{fusedBy, greenFrom, greenIn}
-use Rattle.green_row.proofs.BoundLaws.{window-at-most}
+use Rattle.green_row.proofs.BufferBounds.{window-at-most}
 
 -- ---- one place
 pub sum-at : (s : ℕ) (g : List ℕ) {p q : ℕ} → p ≡ q → directionSum (windowIn s g p) ≡ directionSum (windowIn s g q)

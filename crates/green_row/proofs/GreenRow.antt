@@ -2,8 +2,6 @@
 use Prim.Native.Nat.{ℕ, _+_, _-_, _*_, _≤_, _<_}
 use mathlib.Core.List.{List}
 use mathlib.Core.Path.{_≡_, sym, ap, ap₂, _∙_}
-use native.Mathlib.Nat.{suc-mul}
-use native.Mathlib.Numerals.{add-one}
 use native.Mathlib.Omega.{arith}
 use lib.Dec.{lit≤}
 use lib.IntN.{ℤ, pos, subℕ}
@@ -13,10 +11,8 @@ use Rattle.lists.specs.Table.{table, joined}
 use Rattle.lists.proofs.TableLaws.{table-same}
 use Rattle.lists.proofs.PartLaws.{getD-part}
 use Rattle.bayer.specs.declared.frame.Frame.{Frame}
-use Rattle.bayer.specs.Mirror.{mirror}
 use Rattle.bayer.specs.Mosaic.{continued, isGreen}
 use Rattle.bayer.specs.Parity.{startsGreen}
-use Rattle.bayer.specs.Lent.{Lent}
 use Rattle.bayer.proofs.MirrorLaws.{mirror-inside}
 use Rattle.gbtf.specs.GreenAt.{greenAt}
 use Rattle.green_row.specs.AlongAxis.{differenceIn, gradientIn}
@@ -24,17 +20,6 @@ use Rattle.green_row.specs.GreenIn.{greenIn}
 use Rattle.green_row.specs.Extended.{extendedRow}
 use Rattle.green_row.proofs.RowLaws.{at-place, RowPlaces, reading-at, green-at, DH-at, GH-at, DV-at, GV-at}
 use Rattle.green_row.proofs.RowGreen.{RowHolds, green-is}
-
--- row v is among the rows that are lent
-module _ {f : Frame} {first n v : ℕ} (lent : Lent f first n v) where
-  itself : mirror (f .height) (subℕ (v + 6) 6) ≡ v
-  itself = ap (mirror (f .height)) (at-place v 6) ∙ mirror-inside (f .height) v (lent .row)
-
-  pub row-start : first ≤ v
-  row-start = rw itself at (lent .start 6 (lit≤ tt))
-
-  pub row-end : (v - first) * f .width + f .width ≤ n
-  row-end = rw (itself, add-one, suc-mul) at (lent .end 6 (lit≤ tt))
 
 -- for row v, of which column 0 is green or not by o: the readings x, the differences dh and dv, and the gradients gh and gv
 pub record RowBuffers (f : Frame) (first : ℕ) (rows : List ℕ) (v s o : ℕ) (x : List ℕ) (dh dv : List ℤ) (gh gv : List ℕ) : Type 0 where

@@ -1,5 +1,5 @@
 pub mod ReadLaws
-pub mod BoundLaws
+pub mod BufferBounds
 pub mod RowLaws
 pub mod RowGreen
 pub mod DirectionLaws

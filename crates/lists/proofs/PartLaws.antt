@@ -32,8 +32,8 @@ module _ {A : Type 0} where
   placed a b xs ys = take a xs ++ (ys ++ drop (b - a) (drop a xs))
 
   -- the others are handed on, and then hold r
-  pub put-rest : (n : ℕ) (p q r : List A) → length p ≡ n → placed n (length (p ++ q)) (p ++ q) r ≡ p ++ r
-  put-rest n p q r h =
+  pub placed-rest : (n : ℕ) (p q r : List A) → length p ≡ n → placed n (length (p ++ q)) (p ++ q) r ≡ p ++ r
+  placed-rest n p q r h =
       let l : length q ≤ length (p ++ q) - n = rw (length-append p q) (omega arith) in
       rw (take-at p q n h, drop-at p q n h, drop-of-length-le q l, append-nil r)
 

@@ -39,6 +39,6 @@ unfoldable pub refusalLine : (number : ℕ) → List ℕ
 refusalLine number = 114 ∷ 101 ∷ 102 ∷ 117 ∷ 115 ∷ 101 ∷ 100 ∷ (spaced number ++ (10 ∷ []))
 
 -- a refusal prints one line
-unfoldable pub answered : (number : ℕ) (accepted : List ℕ) → List ℕ
-answered zero accepted = accepted
-answered (suc n) accepted = refusalLine (suc n)
+unfoldable pub printed : (number : ℕ) (accepted : List ℕ) → List ℕ
+printed zero accepted = accepted
+printed (suc n) accepted = refusalLine (suc n)

@@ -9,9 +9,10 @@ use Rattle.bayer.specs.declared.frame.Frame.{Frame}
 use Rattle.bayer.specs.Planes.{Planes}
 use Rattle.bayer.specs.Piece.{pieceStart, pieceOf}
 use Rattle.bayer.specs.Refusal.{heldAfter}
+use Rattle.demosaic.specs.Sample.{frameRows}
 use Rattle.demosaic.proofs.FrameLocal.{piece-rows}
 use Rattle.demosaic.proofs.PlaneRowsLaws.{plane-range}
-use Rattle.strip.specs.Strip.{Asked, asked, stripPlane, frameRows, Promise}
+use Rattle.strip.specs.Strip.{Asked, asked, stripPlane, Promise}
 use Rattle.strip.proofs.StripLaws.{fits}
 
 -- plane k of what a call leaves

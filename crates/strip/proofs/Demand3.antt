@@ -21,14 +21,14 @@ use Rattle.bayer.specs.Planes.{Planes, threePlanes}
 use Rattle.bayer.specs.Mosaic.{continued}
 use Rattle.bayer.proofs.MirrorLaws.{mirror-inside}
 use Rattle.bayer.proofs.RefusalLaws.{refused-holds}
-use Rattle.calls.specs.Calls.{Call, accepted, refused, Rows, Step, Runs, Covers, Covered, After}
-use Rattle.calls.proofs.CallList.{after-calls}
 use Rattle.green_rule.proofs.GreensLaws.{greens-observed}
 use Rattle.demosaic.specs.Sample.{otherFrom, sample}
 use Rattle.demosaic.specs.Exact.{exactSample, printedError}
 use Rattle.demosaic.proofs.SampleError.{printed-error}
 use Rattle.demosaic.proofs.FrameLocal.{piece-sample, piece-exactSample}
 use Rattle.demosaic.proofs.PlaneRowsLaws.{plane-length, plane-at}
+use Rattle.calls.specs.Calls.{Call, accepted, refused, Rows, Step, Runs, Covers, Covered, After}
+use Rattle.calls.proofs.CallList.{after-calls}
 use Rattle.strip.specs.Strip.{Asked, asked, stripPlane, Promise}
 use Rattle.strip.specs.Demand.{StripCall, numberOf, Accepted, OfFrame, Called, CalledAll, CoveredBy, Demanded, Cited}
 use Rattle.strip.proofs.StripLaws.{Fits, fits}

@@ -19,7 +19,7 @@ use Rattle.bayer.specs.Lent.{Lent}
 use Rattle.bayer.proofs.RefusalLaws.{off, off-append}
 use Rattle.bayer.proofs.ConditionLaws.{frame-fits, rows-fit, readings-fit}
 use Rattle.demosaic.proofs.FrameLocal.{in-piece}
-use Rattle.strip_rows.specs.Rows.{Readable}
+use Rattle.strip_rows.specs.StripRows.{Readable}
 use Rattle.strip.specs.Strip.{Asked, lengthCases, stripNumber}
 
 pub record Fits (c : Asked) (red green blue : ℕ) : Type 0 where

@@ -42,10 +42,6 @@ stripNumber c red green blue = firstOf (frameCases (c .frame) ++ (rowsCases (c .
 abbrev pub stripPlane : Asked → (k : Colour) → List ℕ
 stripPlane c k = planeRows (c .frame) (pieceStart (c .first)) (c .piece) (c .first) (c .count) k
 
--- those rows of the whole frame
-abbrev pub frameRows : Frame → (readings : List ℕ) (a n : ℕ) (k : Colour) → List ℕ
-frameRows f readings a n k = planeRows f 0 readings a n k
-
 -- THE CONTRACT of a strip call, which its code is proved to keep: its answer, and the planes lent to it as they are afterwards
 pub record Promise (c : Asked) (lent : Planes) (answer : ℕ) (after : Planes) : Type 0 where
   pub number : answer ≡ stripNumber c (length (lent Red)) (length (lent Green)) (length (lent Blue))

@@ -2,7 +2,7 @@ ghost use Rattle.bayer.specs.Planes.{threePlanes};
 ghost use Rattle.strip.specs.Strip.{asked, Promise};
 use crate::check::strip_check;
 use bayer::frame::Frame;
-use strip_rows::fill::fill;
+use strip_rows::fill::fill_planes;
 
 // Fills rows a to a + n - 1 of the three planes, n * W samples each, from the piece of the mosaic that has these rows and seven more on each side, within
 // the frame. The answer is 0; or the number of a refusal, and the planes are as they were.
@@ -23,6 +23,6 @@ pub fn strip(
     }
     let mut above = [0u16; 4096];
     let mut below = [0u16; 4096];
-    fill(frame, a, n, piece, red, green, blue, &mut above, &mut below);
+    fill_planes(frame, a, n, piece, red, green, blue, &mut above, &mut below);
     0
 }

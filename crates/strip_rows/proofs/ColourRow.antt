@@ -1,15 +1,12 @@
 -- What `colour_row` hands on for row v of red or blue, and that the row is worked out from it. Assumes nothing.
 use Prim.Native.Nat.{ℕ, _+_, _-_, _*_, _≤_, _<_}
-use mathlib.Core.Path.{_≡_, refl, sym, subst, ap, _∙_}
-use mathlib.Core.Bool.{true, false, true≢false}
+use mathlib.Core.Path.{_≡_, refl, ap, _∙_}
+use mathlib.Core.Bool.{true, false}
 use mathlib.Core.List.{List}
-use native.Mathlib.Nat.{suc-mul}
-use native.Mathlib.Numerals.{add-one}
 use native.Mathlib.Omega.{arith}
-use lib.Dec.{lit≤}
 use lib.IntN.{ℤ, pos, subℕ, _+ℤ_, _-ℤ_}
 use lib.ListN.{length, take, drop}
-use Rattle.whole.proofs.Pairs.{sub-eq, sub-pos}
+use Rattle.whole.proofs.Pairs.{sub-pos}
 use Rattle.lists.specs.Part.{rowOf}
 use Rattle.lists.specs.Table.{table}
 use Rattle.lists.specs.Bound.{AllAtMost}
@@ -17,56 +14,19 @@ use Rattle.lists.proofs.TableLaws.{length-table}
 use Rattle.lists.proofs.PartLaws.{part-length, row-is}
 use Rattle.lists.proofs.BoundLaws.{row-at-most}
 use Rattle.bayer.specs.declared.colour.Colour.{Colour}
-use Rattle.bayer.specs.declared.colour.Colour.the-variants.{Red, Green, Blue}
+use Rattle.bayer.specs.declared.colour.Colour.the-variants.{Green}
 use Rattle.bayer.specs.declared.frame.Frame.{Frame}
 use Rattle.bayer.specs.Colour.{same, partner}
 use Rattle.bayer.specs.Mirror.{mirror}
 use Rattle.bayer.specs.Parity.{startsGreen}
 use Rattle.bayer.specs.Lent.{Lent}
-use Rattle.bayer.proofs.ColourLaws.{partner-shares}
+use Rattle.bayer.proofs.ColourLaws.{partner-shares, same-eq, differ-eq}
+use Rattle.bayer.proofs.LentLaws.{Inside, row-inside, above-inside, below-inside}
 use Rattle.bayer.proofs.ParityLaws.{starts-below}
 use Rattle.green_rule.specs.Greens.{greens, greenRow}
-use Rattle.green_row.proofs.GreenRow.{row-start, row-end}
-use Rattle.fill_rows.specs.Rows.{ownIn, otherIn, opposite}
+use Rattle.fill_rows.specs.FillRow.{ownIn, otherIn}
 use Rattle.fill_rows.proofs.FillRowLaws.{own-row-is, other-row-is}
-use Rattle.strip_rows.specs.Rows.{colourRow}
-
--- ---- colours
-
-same-eq : (a b : Colour) → same a b ≡ true → a ≡ b
-same-eq Red Red e = refl
-same-eq Red Green e = absurd (true≢false (sym e))
-same-eq Red Blue e = absurd (true≢false (sym e))
-same-eq Green Red e = absurd (true≢false (sym e))
-same-eq Green Green e = refl
-same-eq Green Blue e = absurd (true≢false (sym e))
-same-eq Blue Red e = absurd (true≢false (sym e))
-same-eq Blue Green e = absurd (true≢false (sym e))
-same-eq Blue Blue e = refl
-
--- of two that are not green
-differ-eq : (a b : Colour) → same a b ≡ false → same a Green ≡ false → (b ≡ Green → ⊥) → a ≡ opposite b
-differ-eq Red Red e g h = absurd (true≢false e)
-differ-eq Red Green e g h = absurd (h refl)
-differ-eq Red Blue e g h = refl
-differ-eq Green b e g h = absurd (true≢false g)
-differ-eq Blue Red e g h = refl
-differ-eq Blue Green e g h = absurd (h refl)
-differ-eq Blue Blue e g h = absurd (true≢false e)
-
--- row r is among the n readings that are lent from row `first` on
-abbrev pub Inside : (f : Frame) (first n r : ℕ) → Type 0
-Inside f first n r = (first ≤ r) × ((r - first) * f .width + f .width ≤ n)
-
-module _ {f : Frame} {first n v : ℕ} (lent : Lent f first n v) where
-  read : (r : ℕ) (z : ℤ) → r < 13 → subℕ (v + r) 6 ≡ z → Inside f first n (mirror (f .height) z)
-  read r z h e = subst (λ z. Inside f first n (mirror (f .height) z)) e (lent .start r h, rw (add-one, suc-mul) at (lent .end r h))
-
-  pub above-inside : {r : ℕ} → r ≡ mirror (f .height) (subℕ v 1) → Inside f first n r
-  above-inside e = rw e (read 5 (subℕ v 1) (lit≤ tt) (sub-eq (v + 5) 6 v 1 (omega arith)))
-
-  pub below-inside : {r : ℕ} → r ≡ mirror (f .height) (subℕ (v + 1) 0) → Inside f first n r
-  below-inside e = rw e (read 7 (subℕ (v + 1) 0) (lit≤ tt) (sub-eq (v + 7) 6 (v + 1) 0 (omega arith)))
+use Rattle.strip_rows.specs.StripRows.{colourRow}
 
 -- ---- row r, as it is handed on
 abbrev handed : (w first : ℕ) (piece : List ℕ) (r : ℕ) → List ℕ
@@ -90,14 +50,14 @@ module _ (f : Frame) (first : ℕ) (piece : List ℕ) (v : ℕ) (lent : Lent f f
       → (o < 2) × (2 ≤ length (handed w first piece v)) × (length (handed w first piece v) ≤ 4096) × (length g ≡ length (handed w first piece v)) × (length out ≡ length (handed w first piece v))
       × (AllAtMost 4095 (handed w first piece v))
   own-ready out fits small =
-      rw (handed-long v (row-start lent, row-end lent))
+      rw (handed-long v (row-inside lent))
       (omega (arith, starts, starts-below (f .layout) v), omega (arith, lent .frame .wide), lent .frame .narrow, green-long v hg, fits, rw (handed-is {r = v} refl) (row-at-most w (v - first) piece small))
 
   pub own-done : (k : Colour) {l : List ℕ} → same k (partner (f .layout) v) ≡ true
       → l ≡ table (ownIn (length (handed w first piece v)) o (handed w first piece v) g) (length (handed w first piece v)) → l ≡ colourRow f first piece k v
   own-done k e h =
       h
-      ∙ rw (handed-long v (row-start lent, row-end lent), starts, handed-is {r = v} refl, hg, same-eq k _ e)
+      ∙ rw (handed-long v (row-inside lent), starts, handed-is {r = v} refl, hg, same-eq k _ e)
       (own-row-is f first piece (greens f first piece) v (lent .frame .known) (omega (arith, lent .frame .wide)) (omega (arith, lent .frame .high)) (lent .row))
 
   -- to the other one

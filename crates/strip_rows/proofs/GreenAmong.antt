@@ -15,7 +15,7 @@ use Rattle.bayer.specs.declared.frame.Frame.{Frame}
 use Rattle.bayer.specs.Mirror.{mirror}
 use Rattle.bayer.proofs.MirrorLaws.{mirror-inside, mirror-above, mirror-below, mirror-from}
 use Rattle.green_rule.specs.Greens.{greenRow}
-use Rattle.strip_rows.specs.Rows.{Readable, GreensOf, amongGreens}
+use Rattle.strip_rows.specs.StripRows.{Readable, GreensOf, amongGreens}
 
 -- row v of the greens, by its place
 module _ (w a n : ℕ) (green above below : List ℕ) (v : ℕ) where

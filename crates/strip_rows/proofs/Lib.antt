@@ -1,3 +1,3 @@
 pub mod GreenAmong
 pub mod ColourRow
-pub mod PlaneLaws
+pub mod PlanesFromRows

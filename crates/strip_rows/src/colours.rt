@@ -11,9 +11,10 @@ ghost use Rattle.bayer.specs.Mirror.{mirror};
 ghost use Rattle.bayer.specs.Lent.{Lent};
 ghost use Rattle.green_rule.specs.Greens.{greenRow};
 ghost use Rattle.demosaic.specs.Sample.{planeRows};
-ghost use Rattle.strip_rows.specs.Rows.{colourRow, Readable, GreensOf, amongGreens};
+ghost use Rattle.strip_rows.specs.StripRows.{colourRow, Readable, GreensOf, amongGreens};
 use bayer::colour::Colour;
 use bayer::colour::partner;
+use bayer::colour::same_colour;
 use bayer::frame::Frame;
 use bayer::mirror::mirror;
 use bayer::parity::starts_green;
@@ -42,29 +43,6 @@ fn green_of<'a>(
         return &green[at..end];
     }
     below
-}
-
-// Whether two colours are the same.
-fn same_colour(a: Colour, b: Colour) -> bool
-    ensures { λ r. ⌜ r ≡ same a b ⌝ }
-{
-    match a {
-        Colour::Red => match b {
-            Colour::Red => true,
-            Colour::Green => false,
-            Colour::Blue => false,
-        },
-        Colour::Green => match b {
-            Colour::Red => false,
-            Colour::Green => true,
-            Colour::Blue => false,
-        },
-        Colour::Blue => match b {
-            Colour::Red => false,
-            Colour::Green => false,
-            Colour::Blue => true,
-        },
-    }
 }
 
 // Row v of colour k, red or blue: g is its green, ga and gb those of the rows that are read above and below it.

@@ -4,14 +4,14 @@ ghost use lib.ListN.{length};
 ghost use Rattle.bayer.specs.declared.colour.Colour.the-variants.{Red, Green, Blue};
 ghost use Rattle.bayer.specs.Piece.{pieceStart};
 ghost use Rattle.demosaic.specs.Sample.{planeRows};
-ghost use Rattle.strip_rows.specs.Rows.{Readable};
+ghost use Rattle.strip_rows.specs.StripRows.{Readable};
 use crate::colours::colour_planes;
 use crate::greens::greens;
 use bayer::frame::Frame;
 use bayer::piece::piece_start;
 
 // Rows a to a + n - 1 of the three planes, from a strip's piece. above and below are room for the rows of green above and below the strip.
-fn fill_in(
+fn fill_planes_in(
     frame: Frame,
     a: usize,
     n: usize,
@@ -34,7 +34,7 @@ fn fill_in(
 }
 
 // The same, in as much of the room as rows of this width need.
-pub fn fill(
+pub fn fill_planes(
     frame: Frame,
     a: usize,
     n: usize,
@@ -52,7 +52,7 @@ pub fn fill(
     ensures { λ _. ⌜ now (blue .exit) ≡ planeRows frame (pieceStart a) (now (piece .entry)) a n Blue ⌝ }
 {
     let w = frame.width;
-    fill_in(
+    fill_planes_in(
         frame,
         a,
         n,

@@ -8,7 +8,7 @@ use mir.Syntax.{w32}
 use Rattle.whole.specs.Clamp.{clamp}
 use Rattle.whole.proofs.Signed.{read-result}
 use Rattle.demosaic.specs.Fill.{fill}
-use Rattle.fill_rows.specs.Rows.{leftOf, rightOf, colourDifferenceAt, otherIn}
+use Rattle.fill_rows.specs.FillRow.{leftOf, rightOf, colourDifferenceAt, otherIn}
 use Rattle.fill_rows.proofs.SideLaws.{side-in}
 use Rattle.fill_rows.proofs.ChoiceLaws.{read-at, two-same, four-same, clamp-cond}
 use Rattle.fill_rows.proofs.rows.other_between.Statement.{statement}

@@ -8,7 +8,7 @@ use mir.Syntax.{w32}
 use Rattle.whole.specs.Clamp.{clamp}
 use Rattle.whole.proofs.Signed.{E, lit, nat, _⊗_, asked, value, read-result}
 use Rattle.demosaic.specs.Fill.{fill}
-use Rattle.fill_rows.specs.Rows.{leftOf, rightOf, ownIn}
+use Rattle.fill_rows.specs.FillRow.{leftOf, rightOf, ownIn}
 use Rattle.fill_rows.proofs.SideLaws.{side-in}
 use Rattle.fill_rows.proofs.ChoiceLaws.{read-at, two-same, clamp-or}
 use Rattle.fill_rows.proofs.rows.own_between.Statement.{statement}

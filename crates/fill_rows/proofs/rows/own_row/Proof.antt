@@ -4,7 +4,7 @@ use native.Mathlib.Omega.{arith}
 use mathlib.Core.Path.{_≡_}
 use lib.ListN.{length, length-set}
 use Rattle.lists.proofs.TableLaws.{Filled, table-turn}
-use Rattle.fill_rows.specs.Rows.{ownIn}
+use Rattle.fill_rows.specs.FillRow.{ownIn}
 use Rattle.fill_rows.proofs.SideLaws.{before-inside, after-inside}
 use Rattle.fill_rows.proofs.EndLaws.{first-stored, last-stored}
 use Rattle.fill_rows.proofs.rows.own_row.Statement.{statement}

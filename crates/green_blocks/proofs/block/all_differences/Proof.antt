@@ -8,7 +8,7 @@ use lib.ListN.{length, take, drop}
 use Rattle.lists.specs.Table.{table}
 use Rattle.lists.specs.Part.{part}
 use Rattle.lists.proofs.TableLaws.{length-table}
-use Rattle.lists.proofs.PartLaws.{put-rest}
+use Rattle.lists.proofs.PartLaws.{placed-rest}
 use Rattle.green_row.specs.AlongAxis.{differenceIn}
 use Rattle.green_blocks.proofs.block.all_differences.Statement.{statement}
 use Rattle.green_blocks.proofs.block.all_differences.Tie as tie
@@ -83,7 +83,7 @@ same-length c = omega arith
 whole : (s m n odd k l : ℕ) (x : List ℕ) (q : List ℤ) {a e : List ℤ} {i j : ℕ} → k ≡ l → i ≡ n → j ≡ m
     → a ≡ table (differenceIn 1 odd (part (5 * s - 2) k x)) i → e ≡ table (differenceIn s (1 - odd) x) j
     → take n (a ++ q) ++ (e ++ drop (length (a ++ q) - n) (drop n (a ++ q))) ≡ table (differenceIn 1 odd (part (5 * s - 2) l x)) n ++ table (differenceIn s (1 - odd) x) m
-whole s m n odd k l x q {a} {e} h i j p r = put-rest n a q e (ap length p ∙ length-table _ _ ∙ i) ∙ rw (p, r, h, i, j)
+whole s m n odd k l x q {a} {e} h i j p r = placed-rest n a q e (ap length p ∙ length-table _ _ ∙ i) ∙ rw (p, r, h, i, j)
 
 returns : tie.Need-returns
 returns c =

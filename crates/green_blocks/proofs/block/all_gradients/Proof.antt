@@ -8,7 +8,7 @@ use lib.ListN.{length, take, drop}
 use Rattle.lists.specs.Table.{table}
 use Rattle.lists.specs.Part.{part}
 use Rattle.lists.proofs.TableLaws.{length-table}
-use Rattle.lists.proofs.PartLaws.{put-rest}
+use Rattle.lists.proofs.PartLaws.{placed-rest}
 use Rattle.green_row.specs.AlongAxis.{gradientIn}
 use Rattle.green_blocks.proofs.block.all_gradients.Statement.{statement}
 use Rattle.green_blocks.proofs.block.all_gradients.Tie as tie
@@ -89,7 +89,7 @@ same-length c = omega arith
 whole : (s m n k l k′ l′ at to : ℕ) (d : List ℤ) (q : List ℕ) {a e : List ℕ} {i j : ℕ} → k ≡ l → k′ ≡ l′ → at ≡ to → i ≡ n → j ≡ m
     → a ≡ table (gradientIn 1 (part 0 k d)) i → e ≡ table (gradientIn s (part at k′ d)) j
     → take n (a ++ q) ++ (e ++ drop (length (a ++ q) - n) (drop n (a ++ q))) ≡ table (gradientIn 1 (part 0 l d)) n ++ table (gradientIn s (part to l′ d)) m
-whole s m n k l k′ l′ at to d q {a} {e} h h′ f i j p r = put-rest n a q e (ap length p ∙ length-table _ _ ∙ i) ∙ rw (p, r, h, h′, f, i, j)
+whole s m n k l k′ l′ at to d q {a} {e} h h′ f i j p r = placed-rest n a q e (ap length p ∙ length-table _ _ ∙ i) ∙ rw (p, r, h, h′, f, i, j)
 
 returns : tie.Need-returns
 returns c =

@@ -9,7 +9,7 @@ use lib.ListN.{length, take, drop, getD, length-append}
 use lib.Seq.{take-at, drop-at}
 use Rattle.lists.specs.Table.{table}
 use Rattle.lists.proofs.TableLaws.{length-table, table-same, table-append, table-getD}
-use Rattle.lists.proofs.PartLaws.{put-rest}
+use Rattle.lists.proofs.PartLaws.{placed-rest}
 use Rattle.bayer.specs.Mirror.{mirror}
 use Rattle.bayer.proofs.MirrorLaws.{mirror-from, mirror-inside}
 use Rattle.green_row.specs.Extended.{column}
@@ -44,7 +44,7 @@ whole row out {a} {b} {e} {m} {n} o h k p q r =
     let g : length (a ++ b) ≡ length row + 7 = length-append a b ∙ (let f = ap length q in omega arith) in
     let t : 7 + length row + n ≡ length out = omega arith in
     let u : a ++ b ++ e ≡ table (column row) (7 + length row + n) = rw (p, q, r, h) (columns row n) in
-    rw (middle (length row) out a b l) (put-rest (length row + 7) (a ++ b) _ e g ∙ u ∙ ap (table (column row)) t)
+    rw (middle (length row) out a b l) (placed-rest (length row + 7) (a ++ b) _ e g ∙ u ∙ ap (table (column row)) t)
 
 add-end : tie.Need-add-end
 add-end c = omega arith

@@ -7,7 +7,7 @@ use lib.ListN.{length}
 use Rattle.lists.proofs.TableLaws.{Filled, table-none, table-turn, table-done}
 use Rattle.gbtf.specs.Direction.{directionSum}
 use Rattle.green_row.specs.Directions.{windowIn}
-use Rattle.green_row.proofs.BoundLaws.{window-at-most}
+use Rattle.green_row.proofs.BufferBounds.{window-at-most}
 use Rattle.green_row.proofs.sums.sums.Statement.{statement}
 use Rattle.green_row.proofs.sums.sums.Tie as tie
 

@@ -22,7 +22,7 @@ returns c =
 abbrev passed : tie.After-below → tie.Else1
 passed c = c .before .before .before .before .before
 
-abbrev filled : tie.After-below2 → tie.After-fill
+abbrev filled : tie.After-below2 → tie.After-fill-planes
 filled c = c .before .before .before .before .before .before .before .before
 
 fitting : (c : tie.Else1) →
@@ -30,14 +30,14 @@ fitting : (c : tie.Else1) →
     Fits (asked (a .frame) (a .a) (a .n) (a .piece .now)) (length (a .red .now)) (length (a .green .now)) (length (a .blue .now))
 fitting c = fits _ _ _ _ (sym (c .before .strip-check .ensures) ∙ c .if1 .left)
 
-slice-aggregate-fill : tie.Need-slice-aggregate-fill
-slice-aggregate-fill c = search needs
+slice-aggregate-fill-planes : tie.Need-slice-aggregate-fill-planes
+slice-aggregate-fill-planes c = search needs
 
-slice-aggregate-fill-2 : tie.Need-slice-aggregate-fill-2
-slice-aggregate-fill-2 c = search needs
+slice-aggregate-fill-planes-2 : tie.Need-slice-aggregate-fill-planes-2
+slice-aggregate-fill-planes-2 c = search needs
 
-fill-requires : tie.Need-fill-requires
-fill-requires c κs =
+fill-planes-requires : tie.Need-fill-planes-requires
+fill-planes-requires c κs =
     let w = fitting (passed c) in
     (readable _ w, (w .reds, w .greens, w .blues, omega (arith, w .frame .narrow), omega (arith, w .frame .narrow)))
 
@@ -55,7 +55,7 @@ unfolding heldAfter
 returns-2 c =
     let f = filled c in
     let e = passed (f .before) in
-    let r = f .fill .ensures in
+    let r = f .fill-planes .ensures in
     record { number = sym (e .if1 .left) ∙ e .before .strip-check .ensures; red = r .0; green = r .1 .0; blue = r .1 .1 }
 
 pub strip-spec : {M : Type 1} → statement M
@@ -64,9 +64,9 @@ strip-spec =
     (tie.spec
     strip-check-requires
     returns
-    slice-aggregate-fill
-    slice-aggregate-fill-2
-    fill-requires
+    slice-aggregate-fill-planes
+    slice-aggregate-fill-planes-2
+    fill-planes-requires
     same-length
     same-length-2
     same-length-3

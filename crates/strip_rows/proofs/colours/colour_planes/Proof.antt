@@ -1,7 +1,7 @@
 -- `strip_rows::colours::colour_planes` meets its contract. Assumes nothing.
 use mathlib.Core.Path.{_∙_}
 use borrow.Author.Needs.{needs}
-use Rattle.strip_rows.proofs.PlaneLaws.{red-plane, blue-plane}
+use Rattle.strip_rows.proofs.PlanesFromRows.{red-plane, blue-plane}
 use Rattle.strip_rows.proofs.colours.colour_planes.Statement.{statement}
 use Rattle.strip_rows.proofs.colours.colour_planes.Tie as tie
 

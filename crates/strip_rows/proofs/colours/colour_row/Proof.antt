@@ -3,8 +3,8 @@ use mathlib.Core.Path.{_≡_, sym, ap, _∙_}
 use native.Mathlib.Omega.{arith}
 use lib.ListN.{length}
 use Rattle.bayer.specs.Colour.{same, partner}
-use Rattle.green_row.proofs.GreenRow.{row-start, row-end}
-use Rattle.strip_rows.proofs.ColourRow.{Inside, above-inside, below-inside, own-ready, own-done, other-ready, other-done}
+use Rattle.bayer.proofs.LentLaws.{row-inside, Inside, above-inside, below-inside}
+use Rattle.strip_rows.proofs.ColourRow.{own-ready, own-done, other-ready, other-done}
 use Rattle.strip_rows.proofs.colours.colour_row.Statement.{statement}
 use Rattle.strip_rows.proofs.colours.colour_row.Tie as tie
 
@@ -28,16 +28,16 @@ module _ (c : tie.After-same-colour) where
 -- ---- the colour that shares the row with green
 
 sub-at : tie.Need-sub-at
-sub-at c = row-start (start (c .before) .pre .0 .0)
+sub-at c = row-inside (start (c .before) .pre .0 .0) .0
 
 mul-at : tie.Need-mul-at
-mul-at c = omega (arith, row-end (start (c .before) .pre .0 .0))
+mul-at c = omega (arith, row-inside (start (c .before) .pre .0 .0) .1)
 
 add-end : tie.Need-add-end
-add-end c = omega (arith, row-end (start (c .before) .pre .0 .0))
+add-end c = omega (arith, row-inside (start (c .before) .pre .0 .0) .1)
 
 mul-own-row : tie.Need-mul-own-row
-mul-own-row c = omega (arith, row-end (start (c .before) .pre .0 .0))
+mul-own-row c = omega (arith, row-inside (start (c .before) .pre .0 .0) .1)
 
 sub-own-row : tie.Need-sub-own-row
 sub-own-row c = omega arith
@@ -46,7 +46,7 @@ part-own-row-start : tie.Need-part-own-row-start
 part-own-row-start c = omega arith
 
 part-own-row-end : tie.Need-part-own-row-end
-part-own-row-end c = omega (arith, row-end (start (c .before) .pre .0 .0))
+part-own-row-end c = omega (arith, row-inside (start (c .before) .pre .0 .0) .1)
 
 own-row-requires : tie.Need-own-row-requires
 own-row-requires c κs =

@@ -11,7 +11,7 @@ use Rattle.lists.proofs.JoinedLaws.{part-within, Handed, joined-none, joined-tu
 use Rattle.lists.proofs.PartLaws.{part-length}
 use Rattle.bayer.specs.declared.colour.Colour.{Colour}
 use Rattle.bayer.specs.declared.frame.Frame.{Frame}
-use Rattle.strip_rows.specs.Rows.{colourRow}
+use Rattle.strip_rows.specs.StripRows.{colourRow}
 use Rattle.strip_rows.proofs.GreenAmong.{green-length, among-above, among-here, among-below}
 use Rattle.strip_rows.proofs.colours.colour_rows.Statement.{statement}
 use Rattle.strip_rows.proofs.colours.colour_rows.Tie as tie

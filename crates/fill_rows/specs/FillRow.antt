@@ -4,8 +4,6 @@ use mathlib.Core.Bool.{cond}
 use mathlib.Core.List.{List, [], _∷_}
 use lib.IntN.{ℤ, subℕ}
 use lib.ListN.{getD}
-use Rattle.bayer.specs.declared.colour.Colour.{Colour}
-use Rattle.bayer.specs.declared.colour.Colour.the-variants.{Red, Green, Blue}
 use Rattle.bayer.specs.Mirror.{mirror}
 use Rattle.bayer.specs.Parity.{isOdd}
 use Rattle.demosaic.specs.Fill.{colourDifference, sumOf, fill}
@@ -31,9 +29,3 @@ unfoldable pub otherIn : (w odd : ℕ) (g xa ga xb gb : List ℕ) (j : ℕ) → 
 otherIn w odd g xa ga xb gb j =
     cond (isOdd (j + odd)) (fill 2 (getD g j 0) (sumOf (colourDifferenceAt xa ga j ∷ colourDifferenceAt xb gb j ∷ [])))
     (fill 4 (getD g j 0) (sumOf (colourDifferenceAt xa ga (leftOf w j) ∷ colourDifferenceAt xa ga (rightOf w j) ∷ colourDifferenceAt xb gb (leftOf w j) ∷ colourDifferenceAt xb gb (rightOf w j) ∷ [])))
-
--- the one of red and blue that is not this one
-abbrev pub opposite : Colour → Colour
-opposite Red = Blue
-opposite Green = Green
-opposite Blue = Red

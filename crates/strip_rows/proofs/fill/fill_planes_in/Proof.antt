@@ -1,11 +1,11 @@
--- `strip_rows::fill::fill_in` meets its contract. Assumes nothing.
+-- `strip_rows::fill::fill_planes_in` meets its contract. Assumes nothing.
 use mathlib.Core.Path.{_∙_}
 use borrow.Author.Needs.{needs}
 use Rattle.bayer.specs.declared.colour.Colour.the-variants.{Red, Green, Blue}
-use Rattle.strip_rows.specs.Rows.{Readable}
-use Rattle.strip_rows.proofs.PlaneLaws.{green-plane, readable-from, plane-from}
-use Rattle.strip_rows.proofs.fill.fill_in.Statement.{statement}
-use Rattle.strip_rows.proofs.fill.fill_in.Tie as tie
+use Rattle.strip_rows.specs.StripRows.{Readable}
+use Rattle.strip_rows.proofs.PlanesFromRows.{green-plane, readable-from, plane-from}
+use Rattle.strip_rows.proofs.fill.fill_planes_in.Statement.{statement}
+use Rattle.strip_rows.proofs.fill.fill_planes_in.Tie as tie
 
 -- where the piece's first row is known, and where the greens are there
 abbrev start : tie.After-piece-start → tie.Start
@@ -58,8 +58,8 @@ returns c =
       (g .greens .ensures .own ∙ green-plane (a .frame) _ (a .piece .now) (a .a) (a .n) ∙ from Green, ended c .colour-planes .ensures .1 ∙ from Blue),
     )
 
-pub fill-in-spec : {M : Type 1} → statement M
-fill-in-spec =
+pub fill-planes-in-spec : {M : Type 1} → statement M
+fill-planes-in-spec =
     tie.close
     (tie.spec
     piece-start-requires

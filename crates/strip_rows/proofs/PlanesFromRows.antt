@@ -8,7 +8,7 @@ use Rattle.bayer.specs.declared.colour.Colour.the-variants.{Red, Green, Blue}
 use Rattle.bayer.specs.declared.frame.Frame.{Frame}
 use Rattle.green_rule.specs.Greens.{greenRow}
 use Rattle.demosaic.specs.Sample.{sample, planeRows}
-use Rattle.strip_rows.specs.Rows.{colourRow, Readable}
+use Rattle.strip_rows.specs.StripRows.{colourRow, Readable}
 
 module _ (f : Frame) (first : ℕ) (rows : List ℕ) (a n : ℕ) where
   pub red-plane : joined (λ i. colourRow f first rows Red (a + i)) n ≡ planeRows f first rows a n Red
