@@ -1,4 +1,4 @@
--- The greens of a frame whose rows, from row `first` on, are given: by the whole-number rule, and exact. The share scale and the weights are named here, and nowhere above. Assumes nothing.
+-- The greens of a frame whose rows, from row `first` on, are given: by the whole-number rule, and exact. Which share scale and which weights the rules take is said here. Assumes nothing.
 use Prim.Native.Nat.{ℕ}
 use mathlib.Core.List.{List}
 use lib.Dec.{lit≤}
