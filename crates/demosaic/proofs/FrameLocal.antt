@@ -76,7 +76,8 @@ module _ (f : Frame) (a n i : ℕ) (hH : 8 ≤ f .height) (hn : a + n ≤ f .hei
   in-piece (negsuc k) h = rw (mirror-is (f .height) (negsuc k) (omega arith)) (omega arith)
 
   piece-agrees : (frame : List ℕ) (r : ℤ) → Near 7 (pos i) r → rowOf (f .width) (mirror (f .height) r - pieceStart a) (pieceOf (f .width) (f .height) a n frame) ≡ rowOf (f .width) (mirror (f .height) r - 0) frame
-  piece-agrees frame r h = piece-row (f .width) (f .height) a n (mirror (f .height) r) frame (in-piece r h .0) (in-piece r h .1) ∙ ap (λ x. rowOf (f .width) x frame) (let e : mirror (f .height) r ≡ mirror (f .height) r - 0 = omega arith in e)
+  piece-agrees frame r h = piece-row (f .width) (f .height) a n (mirror (f .height) r) frame (in-piece r h .0) (in-piece r h .1)
+      ∙ ap (λ x. rowOf (f .width) x frame) (let e : mirror (f .height) r ≡ mirror (f .height) r - 0 = omega arith in e)
 
   -- the samples that the piece gives are the whole frame's
   pub piece-sample : (frame : List ℕ) (k : Colour) (j : ℕ) → sample f (pieceStart a) (pieceOf (f .width) (f .height) a n frame) k i j ≡ sample f 0 frame k i j

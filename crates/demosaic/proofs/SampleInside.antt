@@ -34,7 +34,8 @@ module _ (size p : ℕ) (h : 2 ≤ size) (k : p < size) where
   after-in : mirror size (pos p +ℤ pos 1) < size
   after-in = mirror-lt size (pos (p + 1)) (omega arith) (omega arith)
 
-module _ (f : Frame) (m : Mosaic) (hH : 2 ≤ f .height) (hW : 2 ≤ f .width) (G F : ℤ → ℤ → ℕ) (greens : (i j : ℕ) → i < f .height → j < f .width → G (pos i) (pos j) ≡ F (pos i) (pos j)) (i j : ℕ) (hi : i < f .height) (hj : j < f .width) where
+module _ (f : Frame) (m : Mosaic) (hH : 2 ≤ f .height) (hW : 2 ≤ f .width) (G F : ℤ → ℤ → ℕ)
+    (greens : (i j : ℕ) → i < f .height → j < f .width → G (pos i) (pos j) ≡ F (pos i) (pos j)) (i j : ℕ) (hi : i < f .height) (hj : j < f .width) where
   abbrev Inside : Pixel → Type 0
   Inside p = (p .row < f .height) × (p .col < f .width)
 

@@ -27,7 +27,7 @@ module _ {A : Type 0} where
   pub other-part : (n : ℕ) (p q : List A) {l : List A} → l ≡ p ++ q → length p ≡ n → take (length l - n) (drop n l) ≡ q
   other-part n p q e h = rw (e, drop-at p q n h) (take-all (length (p ++ q) - n) q (rw (length-append p q) (omega arith)))
 
-  -- ys in the places a to b of xs
+  -- ys in the places a to b of xs, in the form in which a part that was lent comes back. (Where ys is as long as the part, this is `put a ys xs`.)
   abbrev pub placed : (a b : ℕ) (xs ys : List A) → List A
   placed a b xs ys = take a xs ++ (ys ++ drop (b - a) (drop a xs))
 

@@ -33,5 +33,13 @@ pub put-put : (a : ℕ) (s t l : List ℕ) → a + length s ≤ length l → put
 put-put a s t l h =
     let d : List ℕ = drop (a + length s) l in
     let e : length (take a l ++ s) ≡ a + length s = length-append (take a l) s ∙ ap (λ (k : ℕ). k + length s) (length-take-le a l (omega arith)) in
-    rw (← append-assoc (take a l) s d, take-at (take a l ++ s) d (a + length s) e, ← drop-drop (length t) (a + length s) (take a l ++ s ++ d), drop-at (take a l ++ s) d (a + length s) e, drop-drop (length t) (a + length s) l, length-append s t, ← add-assoc a (length s) (length t))
+    rw (
+      ← append-assoc (take a l) s d,
+      take-at (take a l ++ s) d (a + length s) e,
+      ← drop-drop (length t) (a + length s) (take a l ++ s ++ d),
+      drop-at (take a l ++ s) d (a + length s) e,
+      drop-drop (length t) (a + length s) l,
+      length-append s t,
+      ← add-assoc a (length s) (length t),
+    )
     (append-assoc (take a l) s _ ∙ ap (λ (x : List ℕ). take a l ++ x) (sym (append-assoc s t _)))

@@ -31,7 +31,8 @@ pub promised-range : {c : Asked} {lent after : Planes} {answer : ℕ} → Promis
 promised-range {c} p e k = rw (accepted-plane p e k) (plane-range (c .frame) (pieceStart (c .first)) (c .piece) (c .first) (c .count) k (fits c _ _ _ (sym (p .number) ∙ e) .range))
 
 -- DEMAND 2: an accepted call leaves the samples of rows a to a + n − 1 of every frame whose rows its piece is. Nothing is asked of the frame's other rows
-pub demand-2 : (f : Frame) (readings : List ℕ) (a n : ℕ) {lent after : Planes} {answer : ℕ} → Promise (asked f a n (pieceOf (f .width) (f .height) a n readings)) lent answer after → answer ≡ 0 → (k : Colour) → after k ≡ frameRows f readings a n k
+pub demand-2 : (f : Frame) (readings : List ℕ) (a n : ℕ) {lent after : Planes} {answer : ℕ}
+    → Promise (asked f a n (pieceOf (f .width) (f .height) a n readings)) lent answer after → answer ≡ 0 → (k : Colour) → after k ≡ frameRows f readings a n k
 demand-2 f readings a n p e k =
     let w = fits (asked f a n (pieceOf (f .width) (f .height) a n readings)) _ _ _ (sym (p .number) ∙ e) in
     accepted-plane p e k ∙ piece-rows f a n (w .frame .high) (w .rows) readings k
