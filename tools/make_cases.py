@@ -13,6 +13,12 @@ S W H layout  entry choice method  a n  P R G B  width seed base down across odd
     0 255 255 and at the end 255 0 0, and the program does not read them. Entry 1 will be the preview's; and where a table is lent it has nb bands:
     band t is number t % given of those given, 6 at the most, with advance (t / given) added to its first row.
     Answer: the number of rokzimp_strip, that of rokzimp_strip_check, and for each plane sum, checksum, first and last sample.
+M W H layout a n  R G B M  width seed round  plane at value  plane at value
+    The mosaic back from planes. R, G, B and M are the lengths of the planes and of the mosaic that are lent. In plane c (0 red, 1 green, 2 blue) a sample
+    whose row and column, by width, have parities p and q is rounded down to a multiple of 16 if bit 4c + 2p + q of round is set; then two samples are set.
+    Answer: the number of rokzimp_mosaic_back, that of rokzimp_mosaic_back_check, and of the mosaic sum, checksum, first and last reading.
+B ..
+    A strip call as by S with the same numbers, and then the mosaic back, R long, from the planes that it has left. Answer: as by M.
 V W row length
     A row view; sample t of the plane is t. Answer: number, start, length and checksum of what is shown.
 Q W H layout row red blue
@@ -31,7 +37,7 @@ Reading t of the piece is at row i = t / width + first and column j = t % width,
     noise = kind 0: (x / 2^20) amount / 4096;  kind 1: (x / 2^31) amount;  else: (x / 2^20 % 4) amount, only where x < 2^28
     v = base + down i + across j + oddrow (i % 2) + oddcol (j % 2) + checker ((i + j) % 2) + (step, only where i + j >= from) + noise
 the reading is, by shape, 0: min(v, 4095); 1: v % 4096; else: 4095 - min(v, 4095). Then the readings at the two `at` (if there are such) are set.
-The planes hold, before the call, x / 2^16 with the generator from seed + 1 (red), seed + 2 (green), seed + 3 (blue).
+Planes and mosaics hold, before the call, x / 2^16 with the generator from seed + 1 (red), seed + 2 (green), seed + 3 (blue), seed + 4 (mosaic).
 Checksum: from 0, for each sample y in order, h becomes 1664525 h + y + 1 modulo 2^32. 1664525 is odd, so one wrong sample always changes it.
 """
 import os
@@ -105,19 +111,52 @@ def checksum(samples):
 
 
 # ------------------------------------------------------------ answers, by the reference
-def answer_S(v):
+def shown(q):
+    return [sum(q), checksum(q), q[0] if q else 0, q[-1] if q else 0]
+
+
+def planes_of(seed, *lengths):
+    return [expand_plane(length, seed + k) for k, length in enumerate(lengths, 1)]
+
+
+def strip_of(v):
+    """The numbers of the strip call and of its check, and the planes that it leaves."""
     (W, H, layout), (a, n, P, R, G, B, width, seed) = v[:3], v[6:14]
     p, puts, first = v[14:25], [(v[25], v[26]), (v[27], v[28])], v[29]
     assert v[3:6] == NO_STYLE and v[30:] == NO_BANDS, v
     piece = expand_piece(P, max(width, 1), seed, p, puts, first)
-    planes = [expand_plane(l, seed + k) for k, l in ((1, R), (2, G), (3, B))]
+    planes = planes_of(seed, R, G, B)
     f = r.Frame(W, H, layout)
     num = r.strip_number(RULES, f, a, n, piece, planes)
-    got = r.strip_call(RULES, f, a, n, piece, planes)
-    out = [got, num]
-    for q in planes:
-        out += [sum(q), checksum(q), q[0] if q else 0, q[-1] if q else 0]
-    return out
+    return r.strip_call(RULES, f, a, n, piece, planes), num, planes
+
+
+def answer_S(v):
+    got, num, planes = strip_of(v)
+    return [got, num] + [n for q in planes for n in shown(q)]
+
+
+def back(W, H, layout, a, n, planes, mosaic):
+    got = r.mosaic_back(RULES, r.Frame(W, H, layout), a, n, planes, mosaic)
+    return [got, got] + shown(mosaic)
+
+
+def answer_M(v):
+    width, seed, bits = v[9:12]
+    *planes, mosaic = planes_of(seed, *v[5:9])
+    for c, q in enumerate(planes):
+        for t in range(len(q)):
+            if bits >> 4 * c + 2 * (t // width % 2) + t % width % 2 & 1:
+                q[t] -= q[t] % 16
+    for plane, at, value in (v[12:15], v[15:18]):
+        if at < len(planes[plane]):
+            planes[plane][at] = value
+    return back(*v[:5], planes, mosaic)
+
+
+def answer_B(v):
+    planes, R, seed = strip_of(v)[2], v[9], v[13]
+    return back(*v[:3], *v[6:8], planes, expand_plane(R, seed + 4))
 
 
 def answer_V(v):
@@ -145,7 +184,7 @@ def answer_F(v):
     return [r.stop(16 * v[1] + r.fusion(r.shares(ts, RULES.scale), As, T))]
 
 
-ANSWER = {'S': answer_S, 'V': answer_V, 'Q': answer_Q, 'R': answer_R, 'F': answer_F}
+ANSWER = {'S': answer_S, 'M': answer_M, 'B': answer_B, 'V': answer_V, 'Q': answer_Q, 'R': answer_R, 'F': answer_F}
 
 
 # ------------------------------------------------------------ cases
@@ -161,7 +200,7 @@ class Maker:
         ans = ANSWER[kind](v)
         self.lines.append(' '.join(map(str, [kind] + v)))
         self.answers.append(' '.join(map(str, ans)))
-        key = kind + str(ans[0]) if kind in 'SVQ' else kind
+        key = kind + str(ans[0]) if kind in 'SMBVQ' else kind
         self.count[key] = self.count.get(key, 0) + 1
         return ans
 
@@ -196,7 +235,7 @@ class Maker:
         return out
 
     # -------------------------------------------------------- a strip call
-    def strip(self, W, H, layout, a, n, recipe=None, puts=None, seed=None, P=None, planes=None, true=None):
+    def strip(self, W, H, layout, a, n, recipe=None, puts=None, seed=None, P=None, planes=None, true=None, kind='S'):
         """The lengths are the right ones of the call `true` (W, H, a, n), or of this one, unless they are given."""
         w, h, b, m = true or (W, H, a, n)
         lo, hi = r.strip_rows(h, b, m)
@@ -206,7 +245,7 @@ class Maker:
         recipe = recipe or self.recipe(w, h)
         puts = self.impulses(P) if puts is None else puts + [(NONE, 0)] * (2 - len(puts))
         seed = r.jump(self.g.randrange(M32) if seed is None else seed, lo * w)
-        return self.add('S', W, H, layout, *NO_STYLE, a, n, P, *planes, w, seed, *recipe.numbers(),
+        return self.add(kind, W, H, layout, *NO_STYLE, a, n, P, *planes, w, seed, *recipe.numbers(),
                         *[n for put in puts for n in put], lo, *NO_BANDS)
 
     def cut(self, H):
@@ -330,6 +369,79 @@ class Maker:
                 if t == 6: puts = [(g.randrange(P), 4096)]
             self.strip(W, H, L, a, n, puts=puts, P=P, planes=planes, true=true)
 
+    # -------------------------------------------------------- the mosaic back
+    def mosaic(self, W, H, layout, a, n, puts=(), lengths=None, true=None, bits=0):
+        """The observed samples are multiples of 16, and those of which a bit is given. The lengths are the right ones of the call `true`
+        (W, H, layout, a, n), or of this one, unless they are given."""
+        w, h, true_layout, b, m = true or (W, H, layout, a, n)
+        for c in range(3):
+            for p in range(2):
+                for q in range(2):
+                    bits |= (r.colour(true_layout, b + p, q) == c) << 4 * c + 2 * p + q
+        lengths = [m * w] * 4 if lengths is None else lengths
+        assert max(lengths) <= MOST_PLANE
+        puts = list(puts) + [(0, NONE, 0)] * (2 - len(puts))
+        return self.add('M', W, H, layout, a, n, *lengths, w, self.g.randrange(M32), bits, *[x for put in puts for x in put])
+
+    def place(self, W, layout, a, n):
+        """A place of a strip, and the plane that is observed there."""
+        t = self.g.choice((0, n * W - 1, self.g.randrange(n * W), self.g.randrange(n * W)))
+        return t, r.colour(layout, a + t // W, t % W)
+
+    def mosaics(self, count):
+        g = self.g
+        self.note('mosaics back, of strips cut anywhere; samples that are not observed hold anything')
+        for k in range(count):
+            W, H = self.size(), self.size()
+            a, n = self.cut(H)
+            assert self.mosaic(W, H, k % 4, a, n, bits=g.choice((0, 0, 4095)))[0] == 0
+        for W, H, a, n in ((4096, LEAST, 0, LEAST), (4096, 4096, 4095, 1), (4096, 30, 11, 8), (LEAST, 4096, 0, 4096), (LEAST, 4096, 1, 4095), (4095, 9, 3, 2)):
+            assert self.mosaic(W, H, g.randrange(4), a, n)[0] == 0
+        self.note('and of planes that strip calls left')
+        for k in range(40):
+            W, H = self.size(), self.size()
+            a, n = self.cut(H)
+            assert self.strip(W, H, k % 4, a, n, kind='B')[0] == 0
+
+    def off_camera(self, count):
+        g = self.g
+        self.note('one sample set: observed and a multiple of 16, observed and not, not observed')
+        for k in range(count):
+            W, H, L = self.size(20), self.size(20), k % 4
+            a, n = self.cut(H)
+            t, c = self.place(W, L, a, n)
+            good = g.choice((0, 16, 65520, 16 * g.randrange(4096)))
+            bad = g.choice((1, 15, 17, 65519, 65521, 65534, 65535, 16 * g.randrange(1, 4096) + 1, 16 * g.randrange(1, 4096) - 1))
+            other = (c + g.randrange(1, 3)) % 3
+            for puts, num in (([(c, t, good)], 0), ([(c, t, bad)], 9), ([(other, t, bad)], 0), ([(other, t, 65535), (c, t, bad)], 9)):
+                assert self.mosaic(W, H, L, a, n, puts)[0] == num
+
+    def mosaics_refused(self, count):
+        g = self.g
+        self.note('planes or a mosaic one too long or too short, or empty')
+        for k in range(count):
+            W, H, L = self.size(20), self.size(20), g.randrange(4)
+            a, n = self.cut(H)
+            lengths = [n * W] * 4
+            lengths[k % 4] = g.choice((n * W + 1, n * W - 1, (n - 1) * W, n * W + W, 0))
+            assert self.mosaic(W, H, L, a, n, lengths=lengths)[0] == 5
+        self.note('sizes, layouts and rows off, and several faults at once: the first in the order 1 2 3 5 9 counts')
+        for k in range(count):
+            W, H, L = self.size(20), self.size(20), g.randrange(4)
+            a, n = self.cut(H)
+            true, lengths = (W, H, L, a, n), [n * W] * 4
+            t, c = self.place(W, L, a, n)
+            puts = []
+            for fault in g.sample(range(7), g.choice((1, 2, 3))):
+                if fault == 0: W = g.choice([0, LEAST - 1, 4097] + BIG)
+                if fault == 1: H = g.choice([0, LEAST - 1, 4097] + BIG)
+                if fault == 2: L = g.choice((4, 5, 255))
+                if fault == 3: n = g.choice([0, true[1] - a + 1] + BIG)
+                if fault == 4: a = g.choice([true[1], 2 ** 64 - true[4]] + BIG)
+                if fault == 5: lengths[g.randrange(4)] += g.choice((1, -1))
+                if fault == 6: puts = [(c, t, g.choice((17, 65521, 65535)))]
+            assert self.mosaic(W, H, L, a, n, puts, lengths, true)[0] != 0
+
     # -------------------------------------------------------- views
     def row_views(self, count):
         g = self.g
@@ -417,6 +529,9 @@ def main():
     m.partner_views(240)
     m.fusions(600)
     m.pieces(120)
+    m.mosaics(120)
+    m.off_camera(60)
+    m.mosaics_refused(80)
     assert len('\n'.join(m.lines)) < room(), 'stdin is longer than the program reads'
     os.makedirs(where, exist_ok=True)
     for name, lines in (('stdin', m.lines), ('stdout', m.answers)):

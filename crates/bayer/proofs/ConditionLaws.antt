@@ -1,18 +1,18 @@
--- What holds where a condition does not. Assumes nothing.
+-- What holds where a condition does not, and the other way round. Assumes nothing.
 use Prim.Native.Nat.{ℕ, zero, suc, _+_, _≤_, _<_}
 use mathlib.Core.Path.{_≡_}
-use mathlib.Core.Bool.{false, true≢false}
+use mathlib.Core.Bool.{false, not, true≢false, _||_}
 use mathlib.Core.List.{List}
 use native.Mathlib.Omega.{arith}
-use borrow.Author.Tests.{ltb-false}
-use lib.Dec.{ltb, eqb}
+use borrow.Author.Tests.{ltb-false, le-ltb, eq-eqb, ne-eqb, not-false}
+use lib.Dec.{ltb, eqb, eqb→eq}
 use Rattle.whole.proofs.Tests.{neither}
 use Rattle.lists.specs.Bound.{AllAtMost}
-use Rattle.lists.proofs.AboveLaws.{none-above}
+use Rattle.lists.proofs.AnyLaws.{none-above}
 use Rattle.bayer.specs.declared.frame.Frame.{Frame}
 use Rattle.bayer.specs.Refusal.{firstOf}
-use Rattle.bayer.specs.Condition.{outsideSizes, frameCases, FrameFits, rowsCases, rangeCases}
-use Rattle.bayer.proofs.RefusalLaws.{off}
+use Rattle.bayer.specs.Condition.{outsideSizes, frameCases, FrameFits, rowsCases, planesMisfit, rangeCases}
+use Rattle.bayer.proofs.RefusalLaws.{off, on}
 
 size-fits : (n : ℕ) → outsideSizes n ≡ false → (8 ≤ n) × (n ≤ 4096)
 size-fits n e = let p = neither (ltb n 8) (ltb 4096 n) e in (ltb-false n 8 (p .0), ltb-false 4096 n (p .1))
@@ -25,12 +25,34 @@ frame-fits f e =
     let h = size-fits (f .height) (sizes .1) in
     record { wide = w .0; narrow = w .1; high = h .0; low = h .1; known = ltb-false 3 (f .layout) (o .1 .0) }
 
+pub frame-passes : (f : Frame) → FrameFits f → firstOf (frameCases f) ≡ 0
+frame-passes f w =
+    on (frameCases f) (
+      rw (le-ltb (f .width) 8 (w .wide), le-ltb 4096 (f .width) (w .narrow), le-ltb (f .height) 8 (w .high), le-ltb 4096 (f .height) (w .low)),
+      (le-ltb 3 (f .layout) (w .known), tt),
+    )
+
 positive : (n : ℕ) → eqb n 0 ≡ false → 0 < n
 positive zero e = absurd (true≢false e)
 positive (suc n) e = omega arith
 
 pub rows-fit : (f : Frame) (a n : ℕ) → firstOf (rowsCases f a n) ≡ 0 → (0 < n) × (a + n ≤ f .height)
 rows-fit f a n e = let o = neither (eqb n 0) (ltb (f .height) (a + n)) (off (rowsCases f a n) e .0) in (positive n (o .0), ltb-false (f .height) (a + n) (o .1))
+
+pub rows-pass : (f : Frame) (a n : ℕ) → 0 < n → a + n ≤ f .height → firstOf (rowsCases f a n) ≡ 0
+rows-pass f a n h k = on (rowsCases f a n) (rw (ne-eqb n 0 (omega arith), le-ltb (f .height) (a + n) k), tt)
+
+pub same-number : (m n : ℕ) → not (eqb m n) ≡ false → m ≡ n
+same-number m n e = eqb→eq m n (rw (not-false (eqb m n) e) tt)
+
+pub planes-fit : (size red green blue : ℕ) → planesMisfit size red green blue ≡ false → (red ≡ size) × (green ≡ size) × (blue ≡ size)
+planes-fit size red green blue e =
+    let o = neither (not (eqb red size)) (not (eqb green size) || not (eqb blue size)) e in
+    let p = neither (not (eqb green size)) (not (eqb blue size)) (o .1) in
+    (same-number red size (o .0), same-number green size (p .0), same-number blue size (p .1))
+
+pub planes-pass : (size red green blue : ℕ) → red ≡ size → green ≡ size → blue ≡ size → planesMisfit size red green blue ≡ false
+planes-pass size red green blue r g b = rw (eq-eqb red size r, eq-eqb green size g, eq-eqb blue size b)
 
 pub readings-fit : (readings : List ℕ) → firstOf (rangeCases readings) ≡ 0 → AllAtMost 4095 readings
 readings-fit readings e = none-above 4095 readings (off (rangeCases readings) e .0)

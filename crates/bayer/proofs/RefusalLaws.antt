@@ -4,7 +4,7 @@ use mathlib.Core.Path.{_≡_, refl, sym, _∙_}
 use mathlib.Core.Bool.{Bool, true, false, cond}
 use mathlib.Core.List.{List, [], _∷_, _++_}
 use native.Mathlib.Omega.{arith}
-use Rattle.bayer.specs.Refusal.{Refusal, sizeOutOfRange, unknownLayout, rowsOutsideFrame, wrongPieceLength, wrongPlaneLength, readingOutOfRange, rowMissing, malformedFile, number, Case, firstOf, heldAfter}
+use Rattle.bayer.specs.Refusal.{Refusal, sizeOutOfRange, unknownLayout, rowsOutsideFrame, wrongPieceLength, wrongPlaneLength, readingOutOfRange, rowMissing, malformedFile, notCameraPlanes, number, Case, firstOf, heldAfter}
 
 pub number-positive : (r : Refusal) → 0 < number r
 number-positive sizeOutOfRange = omega arith
@@ -15,6 +15,7 @@ number-positive wrongPlaneLength = omega arith
 number-positive readingOutOfRange = omega arith
 number-positive rowMissing = omega arith
 number-positive malformedFile = omega arith
+number-positive notCameraPlanes = omega arith
 
 -- ---- lists of conditions, one after the other
 

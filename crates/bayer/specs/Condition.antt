@@ -1,6 +1,6 @@
 -- Conditions of refusals. Assumes nothing.
 use Prim.Native.Nat.{ℕ, _+_, _*_, _≤_}
-use mathlib.Core.Bool.{Bool, _||_}
+use mathlib.Core.Bool.{Bool, not, _||_}
 use mathlib.Core.List.{List, [], _∷_, _++_}
 use lib.Dec.{ltb, eqb}
 use Rattle.lists.specs.Bound.{anyAbove}
@@ -36,6 +36,10 @@ rowsOutside H a n = eqb n 0 || ltb H (a + n)
 
 abbrev pub rowsCases : Frame → (a n : ℕ) → List Case
 rowsCases f a n = (rowsOutsideFrame when rowsOutside (f .height) a n) ∷ []
+
+-- 5, of three planes: one of them is not so long
+abbrev pub planesMisfit : (size red green blue : ℕ) → Bool
+planesMisfit size red green blue = not (eqb red size) || (not (eqb green size) || not (eqb blue size))
 
 -- 6: some reading is above 4095
 abbrev pub rangeCases : (readings : List ℕ) → List Case

@@ -4,9 +4,9 @@ use mathlib.Core.Bool.{Bool, cond}
 use mathlib.Core.List.{List, [], _∷_}
 
 pub data Refusal : Type 0 where
-  sizeOutOfRange unknownLayout rowsOutsideFrame wrongPieceLength wrongPlaneLength readingOutOfRange rowMissing malformedFile : Refusal
+  sizeOutOfRange unknownLayout rowsOutsideFrame wrongPieceLength wrongPlaneLength readingOutOfRange rowMissing malformedFile notCameraPlanes : Refusal
 
--- document 01's number, and its word
+-- the papers' number, and their word
 abbrev pub number : Refusal → ℕ
 -- "off size"
 number sizeOutOfRange = 1
@@ -24,6 +24,8 @@ number readingOutOfRange = 6
 number rowMissing = 7
 -- "torn file"
 number malformedFile = 8
+-- "not camera planes"
+number notCameraPlanes = 9
 
 -- a refusal, and whether its condition holds
 pub record Case : Type 0 where

@@ -1,7 +1,9 @@
 ghost use mathlib.Core.Path.{_≡_};
-ghost use Rattle.bayer.specs.Condition.{outsideSizes, frameCases, rowsOutside};
+ghost use mathlib.Core.List.{_++_};
+ghost use Rattle.bayer.specs.Condition.{outsideSizes, frameCases, rowsOutside, rowsCases, planesMisfit};
 ghost use Rattle.bayer.specs.Refusal.{firstOf};
 use crate::frame::Frame;
+use crate::refusal::ROWS_OUTSIDE_FRAME;
 use crate::refusal::SIZE_OUT_OF_RANGE;
 use crate::refusal::UNKNOWN_LAYOUT;
 
@@ -45,4 +47,31 @@ pub fn rows_outside(h: usize, a: usize, n: usize) -> bool
         return true;
     }
     false
+}
+
+// Refusals 1, 2 and 3, of n rows from row a on of a frame.
+pub fn rows_check(frame: Frame, a: usize, n: usize) -> u32
+    ensures { λ r. ⌜ r ≡ firstOf (frameCases frame ++ rowsCases frame a n) ⌝ }
+{
+    let number = frame_check(frame);
+    if number != 0 {
+        return number;
+    }
+    if rows_outside(frame.height, a, n) {
+        return ROWS_OUTSIDE_FRAME;
+    }
+    0
+}
+
+// Refusal 5 of three planes: whether one of them is not so long.
+pub fn planes_misfit(size: usize, red: usize, green: usize, blue: usize) -> bool
+    ensures { λ r. ⌜ r ≡ planesMisfit size red green blue ⌝ }
+{
+    if red != size {
+        return true;
+    }
+    if green != size {
+        return true;
+    }
+    blue != size
 }

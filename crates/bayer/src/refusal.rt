@@ -14,3 +14,5 @@ pub const READING_OUT_OF_RANGE: u32 = 6;
 pub const ROW_MISSING: u32 = 7;
 
 pub const MALFORMED_FILE: u32 = 8;
+
+pub const NOT_CAMERA_PLANES: u32 = 9;

@@ -9,6 +9,7 @@ ghost use Rattle.bayer.specs.Piece.{pieceStart, pieceRows};
 ghost use Rattle.bayer.specs.View.{rowViewNumber, partnerViewNumber, shown, shownFrom};
 ghost use Rattle.bayer.specs.Planes.{planeOf, threePlanes};
 ghost use Rattle.strip.specs.Strip.{asked, stripNumber, Promise};
+ghost use Rattle.remosaic.specs.MosaicBack.{mosaicNumber, MosaicPromise};
 ghost use Rattle.capi.specs.Call.{planeNumber};
 use bayer::colour::Colour;
 use bayer::colour::partner;
@@ -19,6 +20,8 @@ use bayer::view::partner_view;
 use bayer::view::partner_view_check;
 use bayer::view::row_view;
 use bayer::view::row_view_check;
+use remosaic::back::mosaic_back;
+use remosaic::check::mosaic_back_check;
 use strip::check::strip_check;
 use strip::strip::strip;
 
@@ -58,6 +61,44 @@ pub extern "C" fn rokzimp_strip(
 {
     let frame = Frame::new(width, height, layout);
     strip(frame, a, n, piece, red, green, blue)
+}
+
+// The number of a call that gives the mosaic back into one of this length: 0, or its refusal.
+#[no_mangle]
+pub extern "C" fn rokzimp_mosaic_back_check<'a>(
+    width: usize,
+    height: usize,
+    layout: u8,
+    a: usize,
+    n: usize,
+    red: &'a [u16],
+    green: &'a [u16],
+    blue: &'a [u16],
+    mosaic: usize,
+) -> u32
+    ensures { λ r. ⌜ r ≡ mosaicNumber (frame width height layout) a n (threePlanes (now (red .entry)) (now (green .entry)) (now (blue .entry))) mosaic ⌝ }
+{
+    let frame = Frame::new(width, height, layout);
+    mosaic_back_check(frame, a, n, red, green, blue, mosaic)
+}
+
+// The readings of rows a to a + n - 1, from the three planes of these rows.
+#[no_mangle]
+pub extern "C" fn rokzimp_mosaic_back<'a>(
+    width: usize,
+    height: usize,
+    layout: u8,
+    a: usize,
+    n: usize,
+    red: &'a [u16],
+    green: &'a [u16],
+    blue: &'a [u16],
+    mosaic: &mut [u16],
+) -> u32
+    ensures { λ r. ⌜ MosaicPromise (frame width height layout) a n (threePlanes (now (red .entry)) (now (green .entry)) (now (blue .entry))) (now (mosaic .entry)) r (now (mosaic .exit)) ⌝ }
+{
+    let frame = Frame::new(width, height, layout);
+    mosaic_back(frame, a, n, red, green, blue, mosaic)
 }
 
 // The first row of the piece that a strip from row a is lent.

@@ -6,6 +6,7 @@ use crate::fields::Fields;
 
 mod fields;
 mod fusion_case;
+mod mosaic_case;
 mod piece_case;
 mod print;
 mod recipe;
@@ -16,6 +17,12 @@ mod view_case;
 fn answer(letter: u8, f: &Fields) {
     if letter == b'S' {
         strip_case::run(f);
+    }
+    if letter == b'M' {
+        mosaic_case::run(f);
+    }
+    if letter == b'B' {
+        mosaic_case::run_strip(f);
     }
     if letter == b'V' {
         view_case::run_row(f);

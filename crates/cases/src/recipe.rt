@@ -117,6 +117,52 @@ pub fn plane(seed: usize, samples: &mut [u16]) {
     }
 }
 
+// Bit `cell` of a number.
+fn bit(bits: usize, cell: usize) -> bool {
+    if cell == 0 {
+        return bits % 2 == 1;
+    }
+    if cell == 1 {
+        return bits / 2 % 2 == 1;
+    }
+    if cell == 2 {
+        return bits / 4 % 2 == 1;
+    }
+    bits / 8 % 2 == 1
+}
+
+// The samples of those cells, by the parities of row and column, whose bit is set, rounded down to a multiple of 16.
+pub fn round(width: usize, bits: usize, samples: &mut [u16]) {
+    let w = at_least_one(width);
+    let mut t = 0;
+    while t < samples.len() {
+        if bit(bits, t / w % 2 * 2 + t % w % 2) {
+            samples[t] = samples[t] / 16 * 16;
+        }
+        t += 1;
+    }
+}
+
+// Sets a sample of the plane of this number: 0 red, 1 green, else blue.
+pub fn put_in(
+    plane: usize,
+    at: usize,
+    value: usize,
+    red: &mut [u16],
+    green: &mut [u16],
+    blue: &mut [u16],
+) {
+    if plane == 0 {
+        put(red, at, value);
+        return;
+    }
+    if plane == 1 {
+        put(green, at, value);
+        return;
+    }
+    put(blue, at, value);
+}
+
 // Samples that count up from a number.
 pub fn count(from: usize, samples: &mut [u16]) {
     let mut t = 0;

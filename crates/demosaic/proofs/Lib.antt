@@ -9,3 +9,4 @@ pub mod SampleLocal
 pub mod FrameLocal
 pub mod SampleInside
 pub mod PlaneRowsLaws
+pub mod ObservedSample

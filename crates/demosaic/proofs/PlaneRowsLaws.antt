@@ -6,9 +6,9 @@ use native.Mathlib.Omega.{arith}
 use lib.ListN.{length, getD}
 use Rattle.lists.specs.Table.{table}
 use Rattle.lists.specs.Bound.{AllAtMost}
-use Rattle.lists.proofs.TableLaws.{length-table, getD-table, table-all}
+use Rattle.lists.proofs.TableLaws.{length-table, getD-table}
 use Rattle.lists.proofs.JoinedLaws.{length-joined, getD-joined}
-use Rattle.lists.proofs.BoundLaws.{all-joined}
+use Rattle.lists.proofs.BoundLaws.{all-parts}
 use Rattle.bayer.specs.declared.colour.Colour.{Colour}
 use Rattle.bayer.specs.declared.frame.Frame.{Frame}
 use Rattle.demosaic.specs.Sample.{sample, planeRows}
@@ -28,4 +28,4 @@ module _ (f : Frame) (first : ℕ) (rows : List ℕ) (a n : ℕ) (k : Colour) wh
 
   pub plane-range : AllAtMost 4095 rows → AllAtMost 65520 (planeRows f first rows a n k)
   unfolding planeRows
-  plane-range range = all-joined (λ x. x ≤ 65520) 0 (omega arith) _ n (λ i. table-all (λ x. x ≤ 65520) _ (f .width) (omega arith) (λ j _. sample-range f first rows range k (a + i) j))
+  plane-range range = all-parts (λ x. x ≤ 65520) 0 (omega arith) (λ i j. sample f first rows k (a + i) j) (f .width) n (λ i j _ _. sample-range f first rows range k (a + i) j)

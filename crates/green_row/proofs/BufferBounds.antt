@@ -4,9 +4,10 @@ use mathlib.Core.List.{List}
 use native.Mathlib.Omega.{arith}
 use lib.IntN.{ℤ, pos, natAbs, subℕ}
 use lib.ListN.{getD}
+use Rattle.lists.specs.Part.{rowOf}
 use Rattle.lists.specs.Table.{table, joined}
 use Rattle.lists.specs.Bound.{AllAtMost, AllWithin}
-use Rattle.lists.proofs.BoundLaws.{all-joined, row-at-most}
+use Rattle.lists.proofs.BoundLaws.{all-parts, row-at-most}
 use Rattle.lists.proofs.TableLaws.{table-all}
 use Rattle.bayer.specs.declared.frame.Frame.{Frame}
 use Rattle.bayer.specs.Mirror.{mirror}
@@ -16,12 +17,13 @@ use Rattle.gbtf.specs.Direction.{directionSum}
 use Rattle.gbtf.proofs.PixelBounds.{difference-within, gradient-within, direction-sum-within}
 use Rattle.green_row.specs.Directions.{windowIn}
 use Rattle.green_row.specs.AlongAxis.{differenceIn, gradientIn}
-use Rattle.green_row.specs.Extended.{extendedRow}
+use Rattle.green_row.specs.Extended.{column, extendedRow}
 
 -- ---- rows of readings
 pub extended-at-most : (f : Frame) (first : ℕ) (rows : List ℕ) (v s n : ℕ) {m : ℕ} → AllAtMost m rows → AllAtMost m (joined (extendedRow f first rows v s) n)
 extended-at-most f first rows v s n {m} h =
-    all-joined (λ x. x ≤ m) 0 (omega arith) (extendedRow f first rows v s) n (λ r. table-all (λ x. x ≤ m) _ s (omega arith) (λ c _. row-at-most (f .width) (mirror (f .height) (subℕ (v + r) 6) - first) rows h _))
+    all-parts (λ x. x ≤ m) 0 (omega arith) (λ r. column (rowOf (f .width) (mirror (f .height) (subℕ (v + r) 6) - first) rows)) s n
+    (λ r c _ _. row-at-most (f .width) (mirror (f .height) (subℕ (v + r) 6) - first) rows h _)
 
 -- ---- differences and gradients
 pub differences-within : (step odd : ℕ) (x : List ℕ) (n : ℕ) → AllAtMost 4095 x → AllWithin mostDifference (table (differenceIn step odd x) n)

@@ -10,9 +10,9 @@ use lib.ListN.{length, getD}
 use Rattle.whole.proofs.Pairs.{anyₚ, _+ₚ_, eq-by}
 use Rattle.lists.specs.Table.{table, joined}
 use Rattle.lists.specs.Bound.{AllAtMost, AllWithin}
-use Rattle.lists.proofs.TableLaws.{table-same, table-all}
+use Rattle.lists.proofs.TableLaws.{table-same}
 use Rattle.lists.proofs.JoinedLaws.{parts, getD-parts}
-use Rattle.lists.proofs.BoundLaws.{all-joined}
+use Rattle.lists.proofs.BoundLaws.{all-parts}
 use Rattle.bayer.specs.Parity.{isOdd}
 use Rattle.gbtf.specs.Bounds.{mostDifference, mostGradient, mostSum}
 use Rattle.gbtf.specs.Direction.{direction, directionSum, fiveSum, total}
@@ -48,7 +48,7 @@ module _ (s w : ℕ) (gh gv : List ℕ) where
   sums = joined (parts (sumIn s gh gv) w) 4
 
   pub sums-at-most : AllAtMost mostGradient gh → AllAtMost mostGradient gv → AllAtMost mostSum sums
-  sums-at-most a b = all-joined (λ n. n ≤ mostSum) 0 (omega arith) (parts (sumIn s gh gv) w) 4 (λ k. table-all (λ n. n ≤ mostSum) (sumIn s gh gv k) w (omega arith) (λ j _. at-most k j))
+  sums-at-most a b = all-parts (λ n. n ≤ mostSum) 0 (omega arith) (sumIn s gh gv) w 4 (λ k j _ _. at-most k j)
     where
       at-most : (k j : ℕ) → sumIn s gh gv k j ≤ mostSum
       at-most zero j = window-at-most gh s _ a
@@ -61,9 +61,7 @@ module _ (ws : List ℕ) (s w : ℕ) (dh dv : List ℤ) where
   fives = joined (parts (fiveIn ws s dh dv) w) 4
 
   fives-within : AllWithin mostDifference dh → AllWithin mostDifference dv → AllWithin (total ws * mostDifference) fives
-  fives-within a b =
-      all-joined (λ z. natAbs z ≤ total ws * mostDifference) (pos 0) (omega arith) (parts (fiveIn ws s dh dv) w) 4
-      (λ k. table-all (λ z. natAbs z ≤ total ws * mostDifference) (fiveIn ws s dh dv k) w (omega arith) (λ j _. within k j))
+  fives-within a b = all-parts (λ z. natAbs z ≤ total ws * mostDifference) (pos 0) (omega arith) (fiveIn ws s dh dv) w 4 (λ k j _ _. within k j)
     where
       within : (k j : ℕ) → natAbs (fiveIn ws s dh dv k j) ≤ total ws * mostDifference
       within zero j = five-sum-within ws (after 1 dh (s + (j + 7))) (λ i. a _)

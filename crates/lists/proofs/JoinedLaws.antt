@@ -4,14 +4,15 @@ use mathlib.Core.Path.{_≡_, refl, sym, ap, ap₂, _∙_}
 use mathlib.Core.List.{List, _++_, append-assoc, append-nil}
 use native.Mathlib.Decide.{decLe}
 use native.Mathlib.Nat.{add-zero, add-suc, suc-mul, add-mul, not-suc-le-zero, zero-mul, one-mul, add-sub-cancel-left, le-antisymm, le-of-eq, le-refl, mul-le-mul-right}
+use native.Mathlib.Numerals.{add-one}
 use native.Mathlib.Omega.{arith}
 use lib.Dec.{lit≤}
 use lib.ListN.{length, take, drop, getD, length-append, drop-of-length-le, length-drop, List·getD-append}
-use lib.Seq.{take-at, drop-at, drop-drop, getD-append-add}
+use lib.Seq.{take-all, take-add, take-at, drop-at, drop-drop, getD-append-add}
 use Rattle.lists.specs.Table.{table, joined}
 use Rattle.lists.specs.Part.{part, rowOf}
-use Rattle.lists.proofs.PartLaws.{part-length, placed}
-use Rattle.lists.proofs.TableLaws.{length-table, getD-table, table-same}
+use Rattle.lists.proofs.PartLaws.{part-length, placed, row-length, row-entry}
+use Rattle.lists.proofs.TableLaws.{length-table, getD-table, table-same, table-getD}
 
 module _ {A : Type 0} where
   pub joined-one : (f : ℕ → List A) → joined f 1 ≡ f 0
@@ -89,6 +90,19 @@ joined-rows f w rows m i n h =
 pub row-joined : (f : ℕ → List ℕ) (w : ℕ) → ((j : ℕ) → length (f j) ≡ w) → (n i : ℕ) → i < n → rowOf w i (joined f n) ≡ f i
 unfolding rowOf
 row-joined f w rows n i h = (rw one-mul at (joined-rows f w rows n i 1 (omega arith))) ∙ joined-one (λ k. f (i + k)) ∙ ap f (add-zero i)
+
+-- the first n rows, each w wide
+joined-first : (w n : ℕ) (l : List ℕ) → joined (λ i. rowOf w i l) n ≡ take (n * w) l
+unfolding joined rowOf
+joined-first w zero l = rw zero-mul
+joined-first w (suc n) l = rw (suc-mul n w, take-add (n * w) w l) (ap (λ (x : List ℕ). x ++ take w (drop (n * w) l)) (joined-first w n l))
+
+row-entries : (w i : ℕ) (l : List ℕ) → (i + 1) * w ≤ length l → table (λ j. getD l (i * w + j) 0) w ≡ rowOf w i l
+row-entries w i l h = table-same _ _ w (λ j g. sym (row-entry w i l j g)) ∙ (rw (row-length w i l h) at (table-getD (rowOf w i l) 0))
+
+-- a list of n rows, by its entries
+pub joined-entries : (w n : ℕ) (l : List ℕ) → length l ≡ n * w → joined (λ i. table (λ j. getD l (i * w + j) 0) w) n ≡ l
+joined-entries w n l e = joined-same _ _ n (λ i h. row-entries w i l (rw (e, add-one i) (mul-le-mul-right w h))) ∙ joined-first w n l ∙ take-all (n * w) l (le-of-eq e)
 
 -- parts of w entries, part k by rule k
 module _ {A : Type 0} (rule : ℕ → ℕ → A) (w : ℕ) where

@@ -4,4 +4,4 @@ pub mod PutLaws
 pub mod TableLaws
 pub mod JoinedLaws
 pub mod BoundLaws
-pub mod AboveLaws
+pub mod AnyLaws

@@ -1,10 +1,10 @@
 -- Parts of a list, as the code takes them to lend to calls, and rows of a plane or a mosaic. Assumes nothing.
-use Prim.Native.Nat.{ℕ, zero, suc, _+_, _-_, _*_, _≤_, _<_}
+use Prim.Native.Nat.{ℕ, zero, suc, _+_, _-_, _*_, _≤_, _<_, min}
 use mathlib.Core.List.{List, [], _∷_, _++_, append-nil}
-use mathlib.Core.Path.{_≡_, refl, ap, _∙_}
+use mathlib.Core.Path.{_≡_, refl, sym, ap, _∙_}
 use native.Mathlib.Nat.{add-sub-cancel-left}
 use native.Mathlib.Omega.{arith}
-use lib.ListN.{length, take, drop, getD, length-append, length-drop, drop-of-length-le}
+use lib.ListN.{length, take, drop, getD, length-append, length-take, length-drop, drop-of-length-le}
 use lib.Seq.{length-take-le, take-all, take-at, take-take, drop-at, drop-drop, getD-take, getD-drop}
 use Rattle.lists.specs.Part.{part, rowOf}
 
@@ -19,6 +19,10 @@ module _ {A : Type 0} where
   -- k entries from the a-th on
   pub part-length : (a k : ℕ) (l : List A) → a + k ≤ length l → length (take (a + k - a) (drop a l)) ≡ k
   part-length a k l h = rw (add-sub-cancel-left a k) (length-take-le k (drop a l) (rw (length-drop a l) (omega arith)))
+
+  -- a part that has its k entries lies in the list
+  pub part-inside : (a k : ℕ) (l : List A) → 0 < k → length (part a k l) ≡ k → a + k ≤ length l
+  part-inside a k l h e = let m : min k (length (drop a l)) ≡ k = sym (length-take k (drop a l)) ∙ e in omega (arith, rw (length-drop a l) at m)
 
   -- of two lists, one after the other, the first n entries and the others
   pub first-part : (n k : ℕ) (p q : List A) {l : List A} → l ≡ p ++ q → length p ≡ n → k ≡ n → take k l ≡ p

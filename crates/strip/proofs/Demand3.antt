@@ -5,33 +5,28 @@ use mathlib.Core.Logic.{inl, inr}
 use mathlib.Core.List.{List, [], _∷_, map}
 use Prim.Native.Nat.{ℕ, zero, suc, _+_, _*_, _-_, _≤_, _<_}
 use native.Mathlib.Omega.{arith}
-use lib.IntN.{pos}
 use lib.ListN.{length, getD, drop, length-drop}
 use lib.Seq.{length-take-le}
 use Rattle.whole.specs.Fraction.{natural, Within}
-use Rattle.lists.specs.Part.{rowOf, part, put}
-use Rattle.lists.proofs.PartLaws.{row-entry}
+use Rattle.lists.specs.Part.{part, put}
 use Rattle.bayer.specs.declared.colour.Colour.{Colour}
 use Rattle.bayer.specs.declared.colour.Colour.the-variants.{Red, Green, Blue}
 use Rattle.bayer.specs.declared.frame.Frame.{Frame}
 use Rattle.bayer.specs.Colour.{colourAt}
 use Rattle.bayer.specs.Piece.{pieceStart, pieceOf}
-use Rattle.bayer.specs.Mirror.{mirror}
 use Rattle.bayer.specs.Planes.{Planes, threePlanes}
-use Rattle.bayer.specs.Mosaic.{continued}
-use Rattle.bayer.proofs.MirrorLaws.{mirror-inside}
 use Rattle.bayer.proofs.RefusalLaws.{refused-holds}
-use Rattle.green_rule.proofs.GreensLaws.{greens-observed}
-use Rattle.demosaic.specs.Sample.{otherFrom, sample}
+use Rattle.demosaic.specs.Sample.{sample}
 use Rattle.demosaic.specs.Exact.{exactSample, printedError}
 use Rattle.demosaic.proofs.SampleError.{printed-error}
 use Rattle.demosaic.proofs.FrameLocal.{piece-sample, piece-exactSample}
 use Rattle.demosaic.proofs.PlaneRowsLaws.{plane-length, plane-at}
+use Rattle.demosaic.proofs.ObservedSample.{observed-sample}
 use Rattle.calls.specs.Calls.{Call, accepted, refused, Rows, Step, Runs, Covers, Covered, After}
 use Rattle.calls.proofs.CallList.{after-calls}
 use Rattle.strip.specs.Strip.{Asked, asked, stripPlane, Promise}
 use Rattle.strip.specs.Demand.{StripCall, numberOf, Accepted, OfFrame, Called, CalledAll, CoveredBy, Demanded, Cited}
-use Rattle.strip.proofs.StripLaws.{Fits, fits}
+use Rattle.strip.proofs.StripLaws.{Fits, fits, RowRead, row-read}
 use Rattle.strip.proofs.Demand2.{promised, accepted-plane}
 
 abbrev lent : StripCall → Planes → Colour → List ℕ
@@ -44,13 +39,6 @@ callBy (suc n) c = refused (c .from) (c .size)
 
 abbrev callOf : StripCall → Call
 callOf c = callBy (numberOf c) c
-
--- in the plane of its own colour a pixel has 16 times its reading
-own-colour : (f : Frame) (first : ℕ) (rows : List ℕ) (k : Colour) (i j : ℕ) → continued f first rows .colour (pos i) (pos j) ≡ k → sample f first rows k i j ≡ 16 * continued f first rows .reading (pos i) (pos j)
-unfolding sample otherFrom
-own-colour f first rows Red i j e = rw e
-own-colour f first rows Green i j e = greens-observed f first rows (pos i) (pos j) (rw e)
-own-colour f first rows Blue i j e = rw e
 
 module _ (f : Frame) (readings : List ℕ) where
   abbrev rule : Colour → ℕ → ℕ → ℕ
@@ -137,27 +125,18 @@ module _ (f : Frame) (readings : List ℕ) where
       rw (piece-sample f (c .asked .first) (c .asked .count) i (w .frame .high) (w .rows) (v .1) (v .2) readings k j, piece-exactSample f (c .asked .first) (c .asked .count) i (w .frame .high) (w .rows) (v .1) (v .2) readings k j)
       at (printed-error f (pieceStart (c .asked .first)) (ours c .piece) (w .range) k i j)
 
-  covered-in : (l : List StripCall) (p q : Planes) → CalledAll f readings l p q → (i : ℕ) → CoveredBy l i → i < f .height
-  covered-in (c ∷ l) p q h i (inr v) = covered-in l (h .0) q (h .2) i v
-  covered-in (c ∷ l) p q h i (inl v) = let w = fits-ours c (v .0) (h .1 .premise (v .0)) in omega (arith, w .rows, v .2)
+  -- a covered row is one of the frame, and its readings are there and in range: the call that covered it has tested them
+  pub covered-row : (l : List StripCall) (p q : Planes) → CalledAll f readings l p q → (i : ℕ) → CoveredBy l i → RowRead f readings i
+  covered-row (c ∷ l) p q h i (inr v) = covered-row l (h .0) q (h .2) i v
+  covered-row (c ∷ l) p q h i (inl v) = row-read f readings (c .asked .first) (c .asked .count) (fits-ours c (v .0) (h .1 .premise (v .0))) i (v .1) (v .2)
 
-  -- the observed sample is 16 times the reading
   observed-rule : (i j : ℕ) → i < f .height → j < f .width → rule (colourAt (f .layout) i j) i j ≡ 16 * getD readings (i * f .width + j) 0
-  observed-rule i j hi hj = own-colour f 0 readings (colourAt (f .layout) i j) i j (ap₂ (colourAt (f .layout)) row col) ∙ ap (λ x. 16 * x) read
-    where
-      row : mirror (f .height) (pos i) ≡ i
-      row = mirror-inside (f .height) i hi
-
-      col : mirror (f .width) (pos j) ≡ j
-      col = mirror-inside (f .width) j hj
-
-      read : (continued f 0 readings) .reading (pos i) (pos j) ≡ getD readings (i * f .width + j) 0
-      read = ap₂ (λ r c. getD (rowOf (f .width) r readings) c 0) (let e : mirror (f .height) (pos i) - 0 ≡ i = omega (arith, row) in e) col ∙ row-entry (f .width) i readings j hj
+  observed-rule i j hi hj = let e : i - 0 ≡ i = omega arith in rw e at (observed-sample f 0 readings i j hi hj)
 
   pub demand-3 : (l : List StripCall) (p q : Planes) → ((k : Colour) → length (p k) ≡ f .width * f .height) → CalledAll f readings l p q → Demanded f readings l p q
   demand-3 l p q e h = record {
     near = λ k i j v hj. rw (a .covered k i j (to l i v) hj) (near-exact l p q h k i j v);
-    observed = λ i j v hj. a .covered (colourAt (f .layout) i j) i j (to l i v) hj ∙ observed-rule i j (covered-in l p q h i v) hj;
+    observed = λ i j v hj. a .covered (colourAt (f .layout) i j) i j (to l i v) hj ∙ observed-rule i j (covered-row l p q h i v .inside) hj;
     others = λ k i j v hj. a .others k i j (λ x. v (from l i x)) hj;
     lengths = a .lengths;
   }

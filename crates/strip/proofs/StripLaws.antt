@@ -1,26 +1,25 @@
 -- What an accepted strip call is: it fits, and its piece has all that its rows are worked out from. Assumes nothing.
-use mathlib.Core.Path.{_≡_, sym, subst}
-use mathlib.Core.Bool.{false, not, _||_}
+use mathlib.Core.Path.{_≡_, sym, subst, ap}
+use mathlib.Core.List.{List}
 use Prim.Native.Nat.{ℕ, _+_, _*_, _-_, _≤_, _<_, min, max}
-use native.Mathlib.Nat.{mul-le-mul-right}
+use native.Mathlib.Nat.{add-mul, le-trans, mul-le-mul-right}
 use native.Mathlib.Omega.{arith}
-use borrow.Author.Tests.{not-false}
-use lib.Dec.{eqb, eqb→eq}
 use lib.IntN.{subℕ}
-use lib.ListN.{length}
+use lib.ListN.{length, getD}
 use Rattle.whole.specs.Parts.{up, down}
 use Rattle.whole.proofs.Pairs.{subₚ, differs}
-use Rattle.whole.proofs.Tests.{neither}
 use Rattle.lists.specs.Bound.{AllAtMost}
+use Rattle.lists.proofs.PartLaws.{part-inside, getD-part}
 use Rattle.bayer.specs.Mirror.{mirror}
-use Rattle.bayer.specs.Piece.{pieceStart, pieceEnd, pieceRows}
+use Rattle.bayer.specs.declared.frame.Frame.{Frame}
+use Rattle.bayer.specs.Piece.{pieceStart, pieceEnd, pieceRows, pieceOf}
 use Rattle.bayer.specs.Condition.{frameCases, FrameFits, rowsCases}
 use Rattle.bayer.specs.Lent.{Lent}
 use Rattle.bayer.proofs.RefusalLaws.{off, off-append}
-use Rattle.bayer.proofs.ConditionLaws.{frame-fits, rows-fit, readings-fit}
+use Rattle.bayer.proofs.ConditionLaws.{frame-fits, rows-fit, same-number, planes-fit, readings-fit}
 use Rattle.demosaic.proofs.FrameLocal.{in-piece}
 use Rattle.strip_rows.specs.StripRows.{Readable}
-use Rattle.strip.specs.Strip.{Asked, lengthCases, stripNumber}
+use Rattle.strip.specs.Strip.{Asked, asked, lengthCases, stripNumber}
 
 pub record Fits (c : Asked) (red green blue : ℕ) : Type 0 where
   pub frame : FrameFits (c .frame)
@@ -32,9 +31,6 @@ pub record Fits (c : Asked) (red green blue : ℕ) : Type 0 where
   pub blues : blue ≡ c .count * c .frame .width
   pub range : AllAtMost 4095 (c .piece)
 
-same-number : (m n : ℕ) → not (eqb m n) ≡ false → m ≡ n
-same-number m n e = eqb→eq m n (rw (not-false (eqb m n) e) tt)
-
 pub fits : (c : Asked) (red green blue : ℕ) → stripNumber c red green blue ≡ 0 → Fits c red green blue
 unfolding stripNumber
 fits c red green blue e =
@@ -43,17 +39,15 @@ fits c red green blue e =
     let q = off-append (lengthCases c red green blue) _ (p .1) in
     let rows = rows-fit (c .frame) (c .first) (c .count) (p .0) in
     let lengths = off (lengthCases c red green blue) (q .0) in
-    let size = c .count * c .frame .width in
-    let others = neither (not (eqb red size)) (not (eqb green size) || not (eqb blue size)) (lengths .1 .0) in
-    let last = neither (not (eqb green size)) (not (eqb blue size)) (others .1) in
+    let planes = planes-fit (c .count * c .frame .width) red green blue (lengths .1 .0) in
     record {
       frame = frame-fits (c .frame) (o .0);
       some = rows .0;
       rows = rows .1;
       long = same-number _ _ (lengths .0);
-      reds = same-number _ _ (others .0);
-      greens = same-number _ _ (last .0);
-      blues = same-number _ _ (last .1);
+      reds = planes .0;
+      greens = planes .1;
+      blues = planes .2;
       range = readings-fit (c .piece) (q .1);
     }
 
@@ -87,3 +81,38 @@ module _ (c : Asked) {red green blue : ℕ} (w : Fits c red green blue) where
 
   pub readable : Readable (c .frame) (pieceStart (c .first)) (c .piece) (c .first) (c .count)
   readable = record { frame = w .frame; some = w .some; inside = w .rows; range = w .range; lent = lent-at }
+
+-- what an accepted call of a frame's rows shows of row i, one of its own: its readings are there, and in range
+pub record RowRead (f : Frame) (readings : List ℕ) (i : ℕ) : Type 0 where
+  pub frame : FrameFits f
+  pub inside : i < f .height
+  pub long : (i + 1) * f .width ≤ length readings
+  pub range : (j : ℕ) → j < f .width → getD readings (i * f .width + j) 0 ≤ 4095
+
+pub row-read : (f : Frame) (readings : List ℕ) (a n : ℕ) {red green blue : ℕ} → Fits (asked f a n (pieceOf (f .width) (f .height) a n readings)) red green blue
+    → (i : ℕ) → a ≤ i → i < a + n → RowRead f readings i
+row-read f readings a n w i low high = record { frame = w .frame; inside = omega (arith, w .rows); long = long; range = range }
+  where
+    s : ℕ
+    s = pieceStart a
+
+    rows : ℕ
+    rows = pieceRows (f .height) a n
+
+    -- row i is row i − s of the piece
+    row : (s + (i - s) ≡ i) × (i - s + 1 ≤ rows)
+    row = (omega arith, omega (arith, w .rows))
+
+    whole : (s + rows) * f .width ≤ length readings
+    whole =
+        let h : 1 * f .width ≤ rows * f .width = mul-le-mul-right (f .width) (omega (arith, row)) in
+        rw (add-mul s rows (f .width)) (part-inside (s * f .width) (rows * f .width) readings (omega (arith, w .frame .wide)) (w .long))
+
+    long : (i + 1) * f .width ≤ length readings
+    long = le-trans (mul-le-mul-right (f .width) (let h : i + 1 ≤ s + rows = omega (arith, row) in h)) whole
+
+    range : (j : ℕ) → j < f .width → getD readings (i * f .width + j) 0 ≤ 4095
+    range j h =
+        let at : (i - s) * f .width + j < rows * f .width = omega (arith, mul-le-mul-right (f .width) (row .1)) in
+        let e : s * f .width + ((i - s) * f .width + j) ≡ i * f .width + j = omega (arith, add-mul s (i - s) (f .width), ap (λ x. x * f .width) (row .0)) in
+        rw (getD-part (s * f .width) (rows * f .width) readings ((i - s) * f .width + j) 0 at, e) at (w .range ((i - s) * f .width + j))

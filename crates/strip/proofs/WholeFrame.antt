@@ -5,7 +5,7 @@ use mathlib.Core.Bool.{false, not}
 use mathlib.Core.List.{List, _++_}
 use native.Mathlib.Nat.{mul-comm}
 use native.Mathlib.Omega.{arith}
-use borrow.Author.Tests.{eq-eqb, ne-eqb, le-ltb}
+use borrow.Author.Tests.{eq-eqb}
 use lib.Dec.{eqb}
 use lib.ListN.{length}
 use Rattle.bayer.specs.declared.colour.Colour.{Colour}
@@ -13,11 +13,11 @@ use Rattle.bayer.specs.declared.frame.Frame.{Frame}
 use Rattle.bayer.specs.Planes.{Planes}
 use Rattle.bayer.specs.Piece.{pieceRows}
 use Rattle.bayer.specs.Refusal.{firstOf}
-use Rattle.bayer.specs.Condition.{frameCases, rowsOutside, rowsCases, rangeCases}
+use Rattle.bayer.specs.Condition.{frameCases, rowsCases, planesMisfit, rangeCases}
 use Rattle.bayer.proofs.RefusalLaws.{on, skip}
-use Rattle.bayer.proofs.ConditionLaws.{frame-fits}
+use Rattle.bayer.proofs.ConditionLaws.{frame-fits, rows-pass, planes-pass}
 use Rattle.demosaic.specs.Sample.{framePlane}
-use Rattle.strip.specs.Strip.{asked, planesMisfit, lengthCases, stripNumber, Promise}
+use Rattle.strip.specs.Strip.{asked, lengthCases, stripNumber, Promise}
 use Rattle.strip.proofs.Demand2.{accepted-plane}
 
 module _ (f : Frame) (readings : List ℕ) (long : length readings ≡ f .width * f .height) {red green blue : ℕ} (r : red ≡ f .width * f .height) (g : green ≡ f .width * f .height) (b : blue ≡ f .width * f .height) where
@@ -27,8 +27,8 @@ module _ (f : Frame) (readings : List ℕ) (long : length readings ≡ f .width 
   turned : f .width * H ≡ H * f .width
   turned = mul-comm (f .width) H
 
-  rows : firstOf (frameCases f) ≡ 0 → rowsOutside H 0 H ≡ false
-  rows e = let high = frame-fits f e .high in rw (ne-eqb H 0 (omega arith), le-ltb H (0 + H) (omega arith))
+  rows : firstOf (frameCases f) ≡ 0 → firstOf (rowsCases f 0 H) ≡ 0
+  rows e = let high = frame-fits f e .high in rows-pass f 0 H (omega arith) (omega arith)
 
   piece : not (eqb (length readings) (pieceRows H 0 H * f .width)) ≡ false
   piece =
@@ -36,12 +36,12 @@ module _ (f : Frame) (readings : List ℕ) (long : length readings ≡ f .width 
       rw (eq-eqb (length readings) (pieceRows H 0 H * f .width) (long ∙ turned ∙ ap (λ x. x * f .width) p))
 
   planes : planesMisfit (H * f .width) red green blue ≡ false
-  planes = rw (eq-eqb red _ (r ∙ turned), eq-eqb green _ (g ∙ turned), eq-eqb blue _ (b ∙ turned))
+  planes = planes-pass (H * f .width) red green blue (r ∙ turned) (g ∙ turned) (b ∙ turned)
 
   pub whole-number : stripNumber (asked f 0 H readings) red green blue ≡ firstOf (frameCases f ++ rangeCases readings)
   unfolding stripNumber
   whole-number =
-      skip (frameCases f) (rowsCases f 0 H) (lengthCases (asked f 0 H readings) red green blue ++ rangeCases readings) (λ e. on (rowsCases f 0 H) (rows e, tt))
+      skip (frameCases f) (rowsCases f 0 H) (lengthCases (asked f 0 H readings) red green blue ++ rangeCases readings) rows
       ∙ skip (frameCases f) (lengthCases (asked f 0 H readings) red green blue) (rangeCases readings) (λ e. on (lengthCases (asked f 0 H readings) red green blue) (piece, (planes, tt)))
 
 pub whole-plane : (f : Frame) (readings : List ℕ) {lent after : Planes} {answer : ℕ} → Promise (asked f 0 (f .height) readings) lent answer after → answer ≡ 0 → (k : Colour) → after k ≡ framePlane f readings k

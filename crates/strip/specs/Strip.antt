@@ -1,7 +1,7 @@
 -- A strip call: the number it answers, and what it leaves in the three planes it was lent. Assumes nothing.
 use Prim.Native.Nat.{ℕ, _*_}
 use mathlib.Core.Path.{_≡_}
-use mathlib.Core.Bool.{Bool, not, _||_}
+use mathlib.Core.Bool.{not}
 use mathlib.Core.List.{List, [], _∷_, _++_}
 use lib.Dec.{eqb}
 use lib.ListN.{length}
@@ -11,7 +11,7 @@ use Rattle.bayer.specs.declared.frame.Frame.{Frame}
 use Rattle.bayer.specs.Planes.{Planes}
 use Rattle.bayer.specs.Piece.{pieceStart, pieceRows}
 use Rattle.bayer.specs.Refusal.{Case, _when_, wrongPieceLength, wrongPlaneLength, firstOf, heldAfter}
-use Rattle.bayer.specs.Condition.{frameCases, rowsCases, rangeCases}
+use Rattle.bayer.specs.Condition.{frameCases, rowsCases, planesMisfit, rangeCases}
 use Rattle.demosaic.specs.Sample.{planeRows}
 
 -- what a call asks for: `count` rows of a frame from row `first` on, and the piece of the mosaic that it is lent
@@ -25,9 +25,6 @@ abbrev pub asked : Frame → (a n : ℕ) (piece : List ℕ) → Asked
 asked f a n piece = record { frame = f; first = a; count = n; piece = piece }
 
 -- 4, 5: the lengths of the piece, and of the three planes
-abbrev pub planesMisfit : (size red green blue : ℕ) → Bool
-planesMisfit size red green blue = not (eqb red size) || (not (eqb green size) || not (eqb blue size))
-
 abbrev pub lengthCases : Asked → (red green blue : ℕ) → List Case
 lengthCases c red green blue =
     (wrongPieceLength when not (eqb (length (c .piece)) (pieceRows (c .frame .height) (c .first) (c .count) * c .frame .width)))

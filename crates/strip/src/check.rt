@@ -2,43 +2,15 @@ ghost use mathlib.Core.Path.{_≡_};
 ghost use mathlib.Core.List.{_++_};
 ghost use Rattle.bayer.specs.Condition.{frameCases, rowsCases, rangeCases};
 ghost use Rattle.bayer.specs.Refusal.{firstOf};
-ghost use Rattle.strip.specs.Strip.{asked, planesMisfit, lengthCases, stripNumber};
-use bayer::check::frame_check;
-use bayer::check::rows_outside;
+ghost use Rattle.strip.specs.Strip.{asked, lengthCases, stripNumber};
+use bayer::check::planes_misfit;
+use bayer::check::rows_check;
 use bayer::frame::Frame;
 use bayer::piece::piece_rows;
 use bayer::refusal::READING_OUT_OF_RANGE;
-use bayer::refusal::ROWS_OUTSIDE_FRAME;
 use bayer::refusal::WRONG_PIECE_LENGTH;
 use bayer::refusal::WRONG_PLANE_LENGTH;
 use lists::above::any_above;
-
-// Refusals 1, 2 and 3: of what a call names.
-fn named_check(frame: Frame, a: usize, n: usize) -> u32
-    ensures { λ r. ⌜ r ≡ firstOf (frameCases frame ++ rowsCases frame a n) ⌝ }
-{
-    let number = frame_check(frame);
-    if number != 0 {
-        return number;
-    }
-    if rows_outside(frame.height, a, n) {
-        return ROWS_OUTSIDE_FRAME;
-    }
-    0
-}
-
-// Whether one of the planes is not so long.
-fn planes_misfit(size: usize, red: usize, green: usize, blue: usize) -> bool
-    ensures { λ r. ⌜ r ≡ planesMisfit size red green blue ⌝ }
-{
-    if red != size {
-        return true;
-    }
-    if green != size {
-        return true;
-    }
-    blue != size
-}
 
 // Refusals 4, 5 and 6: of what a call is lent. 6 comes last, as it reads the piece.
 fn lent_check(
@@ -79,7 +51,7 @@ pub fn strip_check(
 ) -> u32
     ensures { λ r. ⌜ r ≡ stripNumber (asked frame a n (now (piece .entry))) red green blue ⌝ }
 {
-    let number = named_check(frame, a, n);
+    let number = rows_check(frame, a, n);
     if number != 0 {
         return number;
     }

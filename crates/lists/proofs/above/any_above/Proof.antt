@@ -2,9 +2,10 @@
 use Prim.Native.Nat.{_≤_, _-_}
 use mathlib.Core.Path.{_≡_, refl, sym, _∙_}
 use native.Mathlib.Omega.{arith}
+use borrow.Author.Tests.{lt-ltb, le-ltb}
 use lib.ListN.{length, drop}
 use Rattle.lists.specs.Bound.{anyAbove}
-use Rattle.lists.proofs.AboveLaws.{above-next, above-stop, above-end}
+use Rattle.lists.proofs.AnyLaws.{any-next, any-stop, any-end}
 use Rattle.lists.proofs.above.any_above.Statement.{statement}
 use Rattle.lists.proofs.above.any_above.Tie as tie
 
@@ -24,7 +25,7 @@ shared-slice-read-if1 : tie.Need-shared-slice-read-if1 Inv-loop μ-loop
 shared-slice-read-if1 c = omega arith
 
 returns : tie.Need-returns Inv-loop μ-loop
-returns c = let l = c .before .before .before .loop in sym (l .inv .1 ∙ above-stop _ _ (l .i) (omega arith) (c .if1 .taken))
+returns c = let l = c .before .before .before .loop in sym (l .inv .1 ∙ any-stop _ _ (l .i) 0 (omega arith) (lt-ltb _ _ (c .if1 .taken)))
 
 add-i : tie.Need-add-i Inv-loop μ-loop
 add-i c = omega arith
@@ -33,10 +34,10 @@ loop-less : tie.Need-loop-less Inv-loop μ-loop
 loop-less c = omega arith
 
 loop-again : tie.Need-loop-again Inv-loop μ-loop
-loop-again c = let l = c .before .before .before .loop in (omega arith, l .inv .1 ∙ above-next _ _ (l .i) (omega arith) (c .if1 .left))
+loop-again c = let l = c .before .before .before .loop in (omega arith, l .inv .1 ∙ any-next _ _ (l .i) 0 (omega arith) (le-ltb _ _ (c .if1 .left)))
 
 returns-2 : tie.Need-returns-2 Inv-loop μ-loop
-returns-2 c = sym (c .before .loop .inv .1 ∙ above-end _ _ (c .before .loop .i) (c .loop-test .left))
+returns-2 c = sym (c .before .loop .inv .1 ∙ any-end _ _ (c .before .loop .i) 0 (c .loop-test .left))
 
 pub any-above-spec : {M : Type 1} → statement M
 any-above-spec =

@@ -10,10 +10,10 @@ use borrow.Author.Tests.{eq-eqb, ne-eqb}
 use Rattle.lists.specs.Bound.{anyAbove}
 use Rattle.bayer.specs.Piece.{pieceRows}
 use Rattle.bayer.specs.Refusal.{firstOf}
-use Rattle.bayer.specs.Condition.{frameCases, rowsCases, rangeCases}
+use Rattle.bayer.specs.Condition.{frameCases, rowsCases, planesMisfit, rangeCases}
 use Rattle.bayer.proofs.RefusalLaws.{off-append}
 use Rattle.bayer.proofs.ConditionLaws.{frame-fits, rows-fit}
-use Rattle.strip.specs.Strip.{asked, planesMisfit, lengthCases}
+use Rattle.strip.specs.Strip.{asked, lengthCases}
 use Rattle.strip.proofs.check.lent_check.Statement.{statement}
 use Rattle.strip.proofs.check.lent_check.Tie as tie
 

@@ -1,13 +1,13 @@
--- `strip::check::named_check` meets its contract, by its tests in their order. Assumes nothing.
+-- `bayer::check::rows_check` meets its contract, by its tests in their order. Assumes nothing.
 use mathlib.Core.Path.{_≡_, sym, _∙_}
 use mathlib.Core.Bool.{cond}
 use mathlib.Core.List.{_++_}
 use borrow.Author.Needs.{needs}
 use Rattle.bayer.specs.Condition.{frameCases, rowsOutside, rowsCases}
 use Rattle.bayer.specs.Refusal.{firstOf}
 use Rattle.bayer.proofs.RefusalLaws.{later, sooner}
-use Rattle.strip.proofs.check.named_check.Statement.{statement}
-use Rattle.strip.proofs.check.named_check.Tie as tie
+use Rattle.bayer.proofs.check.rows_check.Statement.{statement}
+use Rattle.bayer.proofs.check.rows_check.Tie as tie
 
 frame-check-requires : tie.Need-frame-check-requires
 frame-check-requires c κs = search needs
@@ -29,5 +29,5 @@ returns-2 c = rw (passed (c .before .before), sym (c .before .rows-outside .ensu
 returns-3 : tie.Need-returns-3
 returns-3 c = rw (passed (c .before .before), sym (c .before .rows-outside .ensures) ∙ c .if2 .left)
 
-pub named-check-spec : {M : Type 1} → statement M
-named-check-spec = tie.close (tie.spec frame-check-requires returns rows-outside-requires returns-2 returns-3)
+pub rows-check-spec : {M : Type 1} → statement M
+rows-check-spec = tie.close (tie.spec frame-check-requires returns rows-outside-requires returns-2 returns-3)

@@ -1,7 +1,7 @@
--- `strip::check::planes_misfit` meets its contract, by its tests in their order. Assumes nothing.
+-- `bayer::check::planes_misfit` meets its contract, by its tests in their order. Assumes nothing.
 use borrow.Author.Tests.{eq-eqb, ne-eqb}
-use Rattle.strip.proofs.check.planes_misfit.Statement.{statement}
-use Rattle.strip.proofs.check.planes_misfit.Tie as tie
+use Rattle.bayer.proofs.check.planes_misfit.Statement.{statement}
+use Rattle.bayer.proofs.check.planes_misfit.Tie as tie
 
 returns : tie.Need-returns
 returns c = rw (ne-eqb _ _ (c .if1 .taken))

@@ -1,0 +1,19 @@
+-- `capi::rokzimp_mosaic_back` meets its contract. Assumes nothing.
+use borrow.Author.Needs.{needs}
+use Rattle.capi.proofs.rokzimp_mosaic_back.Statement.{statement}
+use Rattle.capi.proofs.rokzimp_mosaic_back.Tie as tie
+
+new-requires : tie.Need-new-requires
+new-requires c κs = search needs
+
+mosaic-back-requires : tie.Need-mosaic-back-requires
+mosaic-back-requires c κs = search needs
+
+same-length : tie.Need-same-length
+same-length c = search needs
+
+returns : tie.Need-returns
+returns c = let s = c .before .before in rw (← s .before .before .new .ensures) (s .mosaic-back .ensures)
+
+pub rokzimp-mosaic-back-spec : {M : Type 1} → statement M
+rokzimp-mosaic-back-spec = tie.close (tie.spec new-requires mosaic-back-requires same-length returns)

@@ -1,0 +1,74 @@
+-- What a call that gives the mosaic back delivers: readings in range, from the observed samples alone; and planes from which it gives back known readings. Assumes nothing.
+use Prim.Native.Nat.{ℕ, _+_, _*_, _/_, _%_, _≤_, _<_}
+use mathlib.Core.Path.{_≡_, sym, ap, _∙_}
+use mathlib.Core.Bool.{false, not}
+use mathlib.Core.List.{List}
+use native.Mathlib.Omega.{arith}
+use borrow.Author.Tests.{eq-eqb, le-ltb, ltb-false}
+use lib.Dec.{ltb, eqb}
+use lib.ListN.{length, getD}
+use Rattle.whole.proofs.Tests.{neither}
+use Rattle.lists.specs.Any.{any}
+use Rattle.lists.specs.Bound.{AllAtMost}
+use Rattle.lists.specs.Table.{table, joined}
+use Rattle.lists.proofs.AnyLaws.{parts-none, none-in-parts}
+use Rattle.lists.proofs.BoundLaws.{all-parts}
+use Rattle.lists.proofs.JoinedLaws.{joined-same, joined-entries}
+use Rattle.lists.proofs.TableLaws.{table-same}
+use Rattle.bayer.specs.declared.colour.Colour.{Colour}
+use Rattle.bayer.specs.declared.colour.Colour.the-variants.{Red, Green, Blue}
+use Rattle.bayer.specs.declared.frame.Frame.{Frame}
+use Rattle.bayer.specs.Planes.{Planes}
+use Rattle.bayer.specs.Refusal.{heldAfter}
+use Rattle.remosaic.specs.MosaicBack.{observed, observedRows, notOfCamera, mosaicNumber, mosaicRows, MosaicPromise, ComesBack}
+use Rattle.remosaic.specs.Rows.{RowsLent}
+use Rattle.remosaic.proofs.NumberLaws.{Fits, fits, accepted}
+
+-- accepted, a call leaves the mosaic's rows
+pub accepted-rows : {f : Frame} {a n : ℕ} {planes : Planes} {lent after : List ℕ} {answer : ℕ} → MosaicPromise f a n planes lent answer after → answer ≡ 0 → after ≡ mosaicRows f a n planes
+unfolding heldAfter
+accepted-rows {f} {a} {n} {planes} {lent} p e = p .mosaic ∙ ap (λ k. heldAfter k (mosaicRows f a n planes) lent) e
+
+-- rules that agree on n rows of w columns
+rows-same : (g h : ℕ → ℕ → ℕ) (w n : ℕ) → ((i j : ℕ) → i < n → j < w → g i j ≡ h i j) → joined (λ i. table (g i) w) n ≡ joined (λ i. table (h i) w) n
+rows-same g h w n e = joined-same _ _ n (λ i k. table-same (g i) (h i) w (λ j l. e i j k l))
+
+module _ (f : Frame) (a n : ℕ) where
+  -- every reading that a call delivers is at most 4095
+  pub mosaic-range : {planes : Planes} {lent after : List ℕ} {answer : ℕ} → MosaicPromise f a n planes lent answer after → answer ≡ 0 → AllAtMost 4095 after
+  mosaic-range {planes} {lent} p e =
+      rw (accepted-rows p e)
+      (all-parts (λ x. x ≤ 4095) 0 (omega arith) (λ i j. observed f a planes i j / 16) (f .width) n
+      (λ i j h k. in-range (observed f a planes i j) (none-in-parts notOfCamera (observed f a planes) (f .width) n (fits f a n planes (length lent) (sym (p .number) ∙ e) .camera) i j h k)))
+    where
+      in-range : (s : ℕ) → notOfCamera s ≡ false → s / 16 ≤ 4095
+      in-range s z = let h : s ≤ 65520 = ltb-false 65520 s (neither (not (eqb (s % 16) 0)) (ltb 65520 s) z .1) in omega arith
+
+  -- the samples that are not observed decide nothing
+  pub observed-decide : (p q : Planes) (mosaic : ℕ) → ((k : Colour) → length (p k) ≡ length (q k)) → ((i j : ℕ) → i < n → j < f .width → observed f a p i j ≡ observed f a q i j)
+      → (mosaicNumber f a n p mosaic ≡ mosaicNumber f a n q mosaic) × (mosaicRows f a n p ≡ mosaicRows f a n q)
+  unfolding mosaicNumber
+  observed-decide p q mosaic l h =
+      let s : observedRows f a n p ≡ observedRows f a n q = rows-same (observed f a p) (observed f a q) (f .width) n h in
+      (rw (l Red, l Green, l Blue, s), rows-same _ _ (f .width) n (λ i j g k. ap (λ x. x / 16) (h i j g k)))
+
+  -- planes whose observed samples are 16 times these readings
+  module _ (planes : Planes) (readings : List ℕ) (lent : RowsLent f a n planes) (some : 0 < n) (long : length readings ≡ n * f .width)
+      (sixteen : (i j : ℕ) → i < n → j < f .width → observed f a planes i j ≡ 16 * getD readings (i * f .width + j) 0)
+      (range : (i j : ℕ) → i < n → j < f .width → getD readings (i * f .width + j) 0 ≤ 4095) where
+    of-camera : (x : ℕ) → x ≤ 4095 → notOfCamera (16 * x) ≡ false
+    of-camera x h = rw (eq-eqb (16 * x % 16) 0 (omega arith), le-ltb 65520 (16 * x) (omega arith))
+
+    camera : any notOfCamera (observedRows f a n planes) ≡ false
+    camera = parts-none notOfCamera (observed f a planes) (f .width) n (λ i j h k. rw (sixteen i j h k) (of-camera _ (range i j h k)))
+
+    divided : mosaicRows f a n planes ≡ readings
+    divided = rows-same _ _ (f .width) n (λ i j h k. rw (sixteen i j h k) (let e : 16 * getD readings (i * f .width + j) 0 / 16 ≡ getD readings (i * f .width + j) 0 = omega arith in e)) ∙ joined-entries (f .width) n readings long
+
+    pub comes-back : ComesBack f a n planes readings
+    comes-back = record {
+      camera = camera;
+      back = λ e p.
+          let z = p .number ∙ accepted f a n planes _ some (record { lent = lent; room = e; camera = camera }) in
+          (z, accepted-rows p z ∙ divided);
+    }

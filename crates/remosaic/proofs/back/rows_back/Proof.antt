@@ -1,0 +1,139 @@
+-- `remosaic::back::rows_back` meets its contract. Assumes nothing.
+use Prim.Native.Nat.{ℕ, _+_, _-_, _*_, _/_, _≤_, _<_}
+use mathlib.Core.Path.{_≡_, refl, sym, _∙_}
+use mathlib.Core.List.{List}
+use native.Mathlib.Nat.{mul-le-mul}
+use native.Mathlib.Omega.{arith}
+use lib.ListN.{length}
+use Rattle.lists.specs.Table.{table}
+use Rattle.lists.proofs.TableLaws.{length-table}
+use Rattle.lists.proofs.JoinedLaws.{part-within, Handed, joined-none, joined-turn, joined-done}
+use Rattle.lists.proofs.PartLaws.{part-length}
+use Rattle.bayer.specs.declared.colour.Colour.{Colour}
+use Rattle.bayer.specs.declared.frame.Frame.{Frame}
+use Rattle.bayer.specs.Condition.{FrameFits}
+use Rattle.bayer.specs.Planes.{Planes, threePlanes}
+use Rattle.remosaic.specs.MosaicBack.{observed}
+use Rattle.remosaic.specs.Rows.{alternating}
+use Rattle.remosaic.proofs.RowLaws.{row-lent, along-row}
+use Rattle.remosaic.proofs.back.rows_back.Statement.{statement}
+use Rattle.remosaic.proofs.back.rows_back.Tie as tie
+
+-- row i of the readings
+abbrev rows : (f : Frame) (a : ℕ) (planes : Planes) (i : ℕ) → List ℕ
+rows f a planes i = table (λ j. observed f a planes i j / 16) (f .width)
+
+rows-length : (f : Frame) (a : ℕ) (planes : Planes) (i : ℕ) → length (rows f a planes i) ≡ f .width
+rows-length f a planes i = length-table _ (f .width)
+
+abbrev Inv-loop : tie.InvT-loop
+Inv-loop frame a n red green blue mosaic₀ w i₀ mosaic i = (i ≤ n) × Handed (rows frame a (threePlanes red green blue)) (frame .width) (rows-length frame a (threePlanes red green blue)) i mosaic₀ mosaic
+
+abbrev μ-loop : tie.MeasureT-loop
+μ-loop frame a n red green blue mosaic₀ w i₀ mosaic i = n - i
+
+loop-holds : tie.Need-loop-holds Inv-loop μ-loop
+loop-holds c =
+    let a = c .before .before .before .before .args in
+    (omega arith, (joined-none _ _ (rows-length (a .frame) (a .a) (threePlanes (a .red .now) (a .green .now) (a .blue .now))) _, refl))
+
+module _ (c : tie.In-loop Inv-loop μ-loop) where
+  abbrev start : tie.Start Inv-loop μ-loop
+  start = c .before .before .before .before .before .before
+
+  -- the row that is written lies in the mosaic
+  writes : (c .before .loop .i * start .args .frame .width + start .args .frame .width ≤ start .args .n * start .args .frame .width) × (start .args .n * start .args .frame .width ≤ 4096 * 4096)
+  writes =
+      let w = start .pre .0 in
+      let few : start .args .n ≤ 4096 = omega (arith, w .inside, w .frame .low) in
+      (part-within (start .args .frame .width) (c .loop-test .taken), mul-le-mul few (w .frame .narrow))
+
+own-row-requires : tie.Need-own-row-requires Inv-loop μ-loop
+own-row-requires c κs = row-lent (start c .pre .0) (c .before .loop .i) (c .loop-test .taken)
+
+own-row-requires-2 : tie.Need-own-row-requires-2 Inv-loop μ-loop
+own-row-requires-2 c κs = own-row-requires (c .before) κs
+
+mul-at : tie.Need-mul-at Inv-loop μ-loop
+mul-at c = omega (arith, writes (c .before .before))
+
+add-end : tie.Need-add-end Inv-loop μ-loop
+add-end c = omega (arith, writes (c .before .before))
+
+mul-row-back : tie.Need-mul-row-back Inv-loop μ-loop
+mul-row-back c = omega (arith, writes (c .before .before))
+
+sub-row-back : tie.Need-sub-row-back Inv-loop μ-loop
+sub-row-back c = omega arith
+
+part-row-back-start : tie.Need-part-row-back-start Inv-loop μ-loop
+part-row-back-start c = omega arith
+
+part-row-back-end : tie.Need-part-row-back-end Inv-loop μ-loop
+part-row-back-end c = omega (arith, writes (c .before .before))
+
+-- the row's readings
+row : (c : tie.After-own-row2 Inv-loop μ-loop) →
+    let k = c .before .before in
+    let a = start k .args in
+    let even = c .before .own-row .result .now in
+    let odd = c .own-row2 .result .now in
+    (length odd ≡ length even) × (length even ≡ a .frame .width)
+    × (table (λ j. alternating even odd j / 16) (length even) ≡ rows (a .frame) (a .a) (threePlanes (a .red .now) (a .green .now) (a .blue .now)) (k .before .loop .i))
+row c = let k = c .before .before in along-row (start k .pre .0) (k .before .loop .i) (k .loop-test .taken) (λ x. x / 16) (c .before .own-row .ensures) (c .own-row2 .ensures)
+
+row-back-requires : tie.Need-row-back-requires Inv-loop μ-loop
+row-back-requires c κs =
+    let k = c .before .before .before in
+    let r = row (c .before) in
+    (r .0, part-length (k .before .loop .i * start k .args .frame .width) (start k .args .frame .width) (k .before .loop .mosaic) (omega (arith, writes k)) ∙ sym (r .1))
+
+add-i : tie.Need-add-i Inv-loop μ-loop
+add-i c = let k = c .before .before .before .before .before .before in omega (arith, k .loop-test .taken, start k .pre .0 .inside)
+
+loop-less : tie.Need-loop-less Inv-loop μ-loop
+loop-less c = omega arith
+
+loop-again : tie.Need-loop-again Inv-loop μ-loop
+loop-again c =
+    let r = c .before .before in
+    let o = r .before .before in
+    let k = o .before .before in
+    let a = start k .args in (
+      omega arith,
+      joined-turn _ _ (rows-length (a .frame) (a .a) (threePlanes (a .red .now) (a .green .now) (a .blue .now))) (k .before .loop .i) (a .n) (a .mosaic .now)
+          (k .loop-test .taken) (start k .pre .1) (k .before .loop .inv .1) (r .row-back .ensures ∙ row o .2),
+    )
+
+same-length : tie.Need-same-length Inv-loop μ-loop
+same-length c = omega arith
+
+returns : tie.Need-returns Inv-loop μ-loop
+returns c =
+    let l = c .before .loop in
+    let s = c .before .before .before .before .before .before in
+    let a = s .args in
+    l .inv .1 .0
+    ∙ joined-done _ _ (rows-length (a .frame) (a .a) (threePlanes (a .red .now) (a .green .now) (a .blue .now))) (l .i) (a .n) _ (l .inv .0) (c .loop-test .left) (s .pre .1)
+
+pub rows-back-spec : {M : Type 1} → statement M
+rows-back-spec =
+    tie.close
+    (tie.spec
+    Inv-loop
+    μ-loop
+    loop-holds
+    own-row-requires
+    own-row-requires-2
+    mul-at
+    add-end
+    mul-row-back
+    sub-row-back
+    part-row-back-start
+    part-row-back-end
+    row-back-requires
+    add-i
+    loop-less
+    loop-again
+    same-length
+    returns)

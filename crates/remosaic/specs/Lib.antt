@@ -1,0 +1,2 @@
+pub mod MosaicBack
+pub mod Rows

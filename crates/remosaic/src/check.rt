@@ -1,0 +1,112 @@
+ghost use mathlib.Core.Path.{_≡_};
+ghost use mathlib.Core.List.{_++_};
+ghost use Prim.Native.Nat.{_*_};
+ghost use lib.ListN.{length};
+ghost use Rattle.lists.specs.Any.{any};
+ghost use Rattle.lists.specs.Table.{table};
+ghost use Rattle.bayer.specs.Condition.{frameCases, rowsCases};
+ghost use Rattle.bayer.specs.Planes.{threePlanes};
+ghost use Rattle.bayer.specs.Refusal.{firstOf};
+ghost use Rattle.remosaic.specs.MosaicBack.{observedRows, lengthCases, notOfCamera, cameraCases, mosaicNumber};
+ghost use Rattle.remosaic.specs.Rows.{RowsLent, alternating};
+use crate::planes::own_row;
+use crate::planes::own_sample;
+use bayer::check::planes_misfit;
+use bayer::check::rows_check;
+use bayer::frame::Frame;
+use bayer::refusal::NOT_CAMERA_PLANES;
+use bayer::refusal::WRONG_PLANE_LENGTH;
+
+// Whether no reading gives this sample.
+fn not_of_camera(sample: u16) -> bool
+    ensures { λ r. ⌜ r ≡ notOfCamera sample ⌝ }
+{
+    if sample % 16 != 0 {
+        return true;
+    }
+    65520 < sample
+}
+
+// Whether an observed sample of a row is such a one. `even` and `odd` are the row in the planes that have its even and its odd columns. The loop goes to
+// the end of the row, so that the compiler handles several columns at a time.
+fn row_not_of_camera(even: &[u16], odd: &[u16]) -> bool
+    requires { ⌜ length (now odd) ≡ length (now even) ⌝ }
+    ensures { λ r. ⌜ r ≡ any notOfCamera (table (alternating (now (even .entry)) (now (odd .entry))) (length (now (even .entry)))) ⌝ }
+{
+    let mut found = false;
+    let mut j = 0;
+    while j < even.len() {
+        found = found | not_of_camera(own_sample(j, even[j], odd[j]));
+        j += 1;
+    }
+    found
+}
+
+// Refusal 9: whether an observed sample of rows a to a + n - 1 is such a one.
+fn rows_not_of_camera<'a>(
+    frame: Frame,
+    a: usize,
+    n: usize,
+    red: &'a [u16],
+    green: &'a [u16],
+    blue: &'a [u16],
+) -> bool
+    requires { ⌜ RowsLent frame a n (threePlanes (now red) (now green) (now blue)) ⌝ }
+    ensures { λ r. ⌜ r ≡ any notOfCamera (observedRows frame a n (threePlanes (now (red .entry)) (now (green .entry)) (now (blue .entry)))) ⌝ }
+{
+    let mut i = 0;
+    while i < n {
+        let even = own_row(frame, a, i, 0, red, green, blue);
+        let odd = own_row(frame, a, i, 1, red, green, blue);
+        if row_not_of_camera(even, odd) {
+            return true;
+        }
+        i += 1;
+    }
+    false
+}
+
+// Refusals 5 and 9: of what a call is lent. 9 comes last, as it reads the planes.
+fn lent_check<'a>(
+    frame: Frame,
+    a: usize,
+    n: usize,
+    red: &'a [u16],
+    green: &'a [u16],
+    blue: &'a [u16],
+    mosaic: usize,
+) -> u32
+    requires { ⌜ firstOf (frameCases frame ++ rowsCases frame a n) ≡ 0 ⌝ }
+    ensures { λ r. ⌜ r ≡ firstOf (lengthCases (n * frame .width) (length (now (red .entry))) (length (now (green .entry))) (length (now (blue .entry))) mosaic ++ cameraCases frame a n (threePlanes (now (red .entry)) (now (green .entry)) (now (blue .entry)))) ⌝ }
+{
+    let size = n * frame.width;
+    if planes_misfit(size, red.len(), green.len(), blue.len()) {
+        return WRONG_PLANE_LENGTH;
+    }
+    if mosaic != size {
+        return WRONG_PLANE_LENGTH;
+    }
+    if rows_not_of_camera(frame, a, n, red, green, blue) {
+        return NOT_CAMERA_PLANES;
+    }
+    0
+}
+
+// The number of a call that is lent a mosaic of this length: 0, or its refusal. Nothing is written.
+pub fn mosaic_back_check<'a>(
+    frame: Frame,
+    a: usize,
+    n: usize,
+    red: &'a [u16],
+    green: &'a [u16],
+    blue: &'a [u16],
+    mosaic: usize,
+) -> u32
+    ensures { λ r. ⌜ r ≡ mosaicNumber frame a n (threePlanes (now (red .entry)) (now (green .entry)) (now (blue .entry))) mosaic ⌝ }
+{
+    let number = rows_check(frame, a, n);
+    if number != 0 {
+        return number;
+    }
+    lent_check(frame, a, n, red, green, blue, mosaic)
+}
