@@ -1,4 +1,4 @@
-/* rokzimp.h - red, green and blue planes from a Bayer mosaic: strip calls, and views of the planes.
+/* rokzimp.h - red, green and blue planes from a Bayer mosaic: strip calls, views of the planes, and the mosaic back from them.
  *
  * Each function below is proved to return, to answer and to write what is said of it, for every value of its arguments
  * (crates/capi/src/lib.rt has the contracts). What is said of stack, heap and locks was measured and seen in the code, not proved.
@@ -6,8 +6,8 @@
  *
  *   - A pointer and the count after it are one run of that many 16-bit samples, at an even address, which the call may read and, where the pointer
  *     is not to const, write. With a count of 0 the pointer is not used, and must still not be NULL.
- *   - A run that is written (red, green, blue of a strip) overlaps no other run of the same call. Runs that are only read may
- *     overlap each other.
+ *   - A run that is written (red, green, blue of a strip; the mosaic that is given back) overlaps no other run of the same call.
+ *     Runs that are only read may overlap each other.
  *   - No other thread writes a run of the call while it runs, nor reads one that it writes.
  *
  * The library keeps no memory between calls, takes no lock and no heap, and prints nothing. Calls in several threads are
@@ -18,7 +18,8 @@
  * A frame has `width` columns and `height` rows, each 8 to 4096. Rows and columns count from 0. Readings are 0 to 4095. The
  * layout gives the colours of an even and of an odd row: 0 = RG GB, 1 = GR BG, 2 = GB RG, 3 = BG GR. It is a byte here: C
  * cuts a wider number to its low byte without a word, so test a wider one before the call.
- * Samples are in sixteenths of a reading, 0 to 65520. Mosaics and planes are stored row by row, without gaps.
+ * Samples are in sixteenths of a reading, 0 to 65520. The observed sample of a pixel is the one in the plane of its filter's
+ * colour. Mosaics and planes are stored row by row, without gaps.
  *
  * A number that a call returns is 0, or one of the refusals. Of several that hold, the one that is tested first is returned.
  * A refused call changes no sample. */
@@ -38,9 +39,11 @@ enum {
     ROKZIMP_UNKNOWN_LAYOUT = 2, /* "unknown layout": layout above 3 */
     ROKZIMP_OFF_THE_FRAME = 3,  /* "off the frame": rows is 0, or first_row + rows, not wrapped, is above height */
     ROKZIMP_SHORT_HALO = 4,     /* "short halo": the piece of the mosaic has not the exact length */
-    ROKZIMP_PLANE_MISFIT = 5,   /* "plane misfit": one of the planes is not rows * width long */
+    ROKZIMP_PLANE_MISFIT = 5,   /* "plane misfit": one of the planes, or the mosaic to be written, is not rows * width long */
     ROKZIMP_OVER_RANGE = 6,     /* "over range": some reading of the piece is above 4095 */
-    ROKZIMP_NO_SUCH_ROW = 7     /* "no such row": a plane is shorter than (row + 1) * width, not wrapped; partner view: or row >= height */
+    ROKZIMP_NO_SUCH_ROW = 7,    /* "no such row": a plane is shorter than (row + 1) * width, not wrapped; partner view: or row >= height */
+    /* 8 is for files, which no function here reads */
+    ROKZIMP_NOT_CAMERA_PLANES = 9 /* "not camera planes": an observed sample is not a multiple of 16, or is above 65520 */
 };
 
 /* The rows of the mosaic that a strip of `rows` rows from `first_row` on is lent: rokzimp_piece_rows rows from row
@@ -62,6 +65,23 @@ uint32_t rokzimp_strip(size_t width, size_t height, uint8_t layout, size_t first
 uint32_t rokzimp_strip_check(size_t width, size_t height, uint8_t layout, size_t first_row, size_t rows,
                              const uint16_t *piece, size_t piece_count,
                              size_t red_count, size_t green_count, size_t blue_count);
+
+/* The mosaic back: writes the readings of rows first_row to first_row + rows - 1 of the frame into `mosaic`, from the three planes
+ * of the same rows. A reading is the observed sample of its pixel, divided by 16; what the other samples hold does not matter.
+ * Tests 1, 2, 3, 5 and 9, in that order; 5 on the three planes and the mosaic. Returns 0 and every reading of the mosaic is
+ * written; or the refusal, and none is. The planes are only read. */
+uint32_t rokzimp_mosaic_back(size_t width, size_t height, uint8_t layout, size_t first_row, size_t rows,
+                             const uint16_t *red, size_t red_count,
+                             const uint16_t *green, size_t green_count,
+                             const uint16_t *blue, size_t blue_count,
+                             uint16_t *mosaic, size_t mosaic_count);
+
+/* The number that rokzimp_mosaic_back returns for such a call, and nothing else done. */
+uint32_t rokzimp_mosaic_back_check(size_t width, size_t height, uint8_t layout, size_t first_row, size_t rows,
+                                   const uint16_t *red, size_t red_count,
+                                   const uint16_t *green, size_t green_count,
+                                   const uint16_t *blue, size_t blue_count,
+                                   size_t mosaic_count);
 
 /* A row view: row `row` of a plane, as the part of it that starts at sample rokzimp_row_view_start and is
  * rokzimp_row_view_length long. The check returns the number: it tests 1 (on the width), then 7. A refused view starts at 0 and

@@ -1,4 +1,4 @@
-"""Red, green and blue planes from a Bayer mosaic: the library's calls for Python.
+"""Red, green and blue planes from a Bayer mosaic, and the mosaic back from them: the library's calls for Python.
 
 Needs CPython and target/lib/librokzimp.so, which tools/build_library.sh builds; ROKZIMP_LIBRARY may name it elsewhere.
 
@@ -6,7 +6,7 @@ Mosaics and planes are lent as they are, and nothing is copied: a numpy array of
 (bytes, bytearray, mmap, memoryview) whose bytes are 16-bit samples in the machine's order. They may have several dimensions,
 stored row by row without gaps. What is written has to be writable; what is only read need not be.
 
-A refusal is raised as Refused, with document 01's number and word, and no lent sample is changed. A number too large for the
+A refusal is raised as Refused, with the papers' number and word, and no lent sample is changed. A number too large for the
 library, or below 0, is refused as the largest number would be. Calls let other Python threads run; see include/rokzimp.h for what
 threads may do at the same time.
 """
@@ -23,15 +23,16 @@ WORDS = {
     2: ("unknown layout", "layout above 3"),
     3: ("off the frame", "no rows, or rows past the frame"),
     4: ("short halo", "the piece of the mosaic has not the exact length"),
-    5: ("plane misfit", "one of the planes is not rows * width long"),
+    5: ("plane misfit", "one of the planes, or the mosaic to be written, is not rows * width long"),
     6: ("over range", "some reading of the piece is above 4095"),
     7: ("no such row", "a plane lacks the row, or the row is past the frame"),
     8: ("torn file", "the file is not what its first ten bytes say"),
+    9: ("not camera planes", "an observed sample is not a multiple of 16, or is above 65520"),
 }
 
 
 class Refused(ValueError):
-    """A refusal: its number, document 01's word for it, and what the word means."""
+    """A refusal: its number, the papers' word for it, and what the word means."""
 
     def __init__(self, number):
         self.number = number
@@ -56,6 +57,7 @@ def _load():
         ("piece_rows", size, [size] * 3),
         ("strip", word, frame + [size, size] + samples * 4),
         ("strip_check", word, frame + [size, size] + samples + [size] * 3),
+        ("mosaic_back", word, frame + [size, size] + samples * 4),
         ("row_view_check", word, samples + [size, size]),
         ("row_view_start", size, samples + [size, size]),
         ("row_view_length", size, samples + [size, size]),
@@ -146,7 +148,12 @@ def _apart(written, read):
     for k, p in enumerate(written):
         for q in written[k + 1:] + read:
             if p.count and q.count and p.address < q.address + 2 * q.count and q.address < p.address + 2 * p.count:
-                raise ValueError("a plane overlaps another buffer of the call")
+                raise ValueError("a buffer to be written overlaps another of the call")
+
+
+def _made(width, rows):
+    """Room for so many rows; none where the sizes are too large, as the library then refuses the call."""
+    return array.array("H", bytes(2 * width * rows if width <= 4096 and rows <= 4096 else 0))
 
 
 def _raise(number):
@@ -203,8 +210,7 @@ def whole_frame(width, height, layout, mosaic, red=None, green=None, blue=None, 
     if threads < 1:
         raise ValueError("threads is below 1")
     with _Lent(mosaic) as m:
-        made = width * height if width <= 4096 and height <= 4096 else 0
-        planes = [array.array("H", bytes(2 * made)) if plane is None else plane for plane in (red, green, blue)]
+        planes = [_made(width, height) if plane is None else plane for plane in (red, green, blue)]
         with _Lent(planes[0], True) as r, _Lent(planes[1], True) as g, _Lent(planes[2], True) as b:
             _apart([r, g, b], [m])
             _raise(_library.rokzimp_strip_check(width, height, layout, 0, height, m.address, m.count, r.count, g.count, b.count))
@@ -223,6 +229,20 @@ def whole_frame(width, height, layout, mosaic, red=None, green=None, blue=None, 
             else:
                 _in_threads(fill, firsts, threads)
     return tuple(planes)
+
+
+def mosaic_back(width, height, layout, first_row, rows, red, green, blue, mosaic=None):
+    """Writes the readings of rows first_row to first_row + rows - 1 into a mosaic of rows * width readings, from the three planes of
+    these rows: each is the sample of its own colour's plane, divided by 16. The other samples may hold anything. A mosaic that is
+    not lent is made, as array('H'). Returns the mosaic."""
+    width, rows = _size(width), _size(rows)
+    if mosaic is None:
+        mosaic = _made(width, rows)
+    with _Lent(red) as r, _Lent(green) as g, _Lent(blue) as b, _Lent(mosaic, True) as m:
+        _apart([m], [r, g, b])
+        _raise(_library.rokzimp_mosaic_back(width, _size(height), _layout(layout), _size(first_row), rows, r.address, r.count,
+                                            g.address, g.count, b.address, b.count, m.address, m.count))
+    return mosaic
 
 
 def _samples(lent):

@@ -15,18 +15,24 @@ import zlib
 sys.path.insert(0, os.path.join(os.path.dirname(os.path.abspath(__file__)), "..", "python"))
 import rokzimp
 
+HEAD = struct.Struct(">BIHHB")  # version, length of the rest, width, height, layout
+
 
 def read_frame(data):
     """Width, height, layout and readings of a frame file. Refusal 8 as the small program has it, but for its limit of 8202 bytes."""
     if len(data) < 10:
         raise rokzimp.Refused(8)
-    version, length, width, height, layout = struct.unpack(">BIHHB", data[:10])
+    version, length, width, height, layout = HEAD.unpack(data[:10])
     if version != 1 or length != len(data) - 5 or length != 5 + 2 * width * height:
         raise rokzimp.Refused(8)
-    readings = array.array("H", data[10:])
+    return width, height, layout, from_big_endian(data[10:])
+
+
+def from_big_endian(data):
+    samples = array.array("H", data)
     if sys.byteorder == "little":
-        readings.byteswap()
-    return width, height, layout, readings
+        samples.byteswap()
+    return samples
 
 
 def big_endian(plane):

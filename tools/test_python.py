@@ -1,7 +1,7 @@
 #!/usr/bin/env python3
-"""Tests of python/rokzimp.py and tools/frame_to_png.py, and with them of the C library: document 01's examples, each refusal, that
-nothing is copied, that any cutting into strips and any number of threads give the same planes, and frames compared with
-reference/reference.py.
+"""Tests of python/rokzimp.py, tools/frame_to_png.py and tools/planes_to_frame.py, and with them of the C library: document 01's
+examples, each refusal, that nothing is copied, that any cutting into strips and any number of threads give the same planes, that
+the mosaic comes back from them, and frames compared with reference/reference.py.
 
     tools/build_library.sh && tools/test_python.py"""
 import array
@@ -22,7 +22,7 @@ from stage import ROOT, RULES
 sys.path.insert(0, os.path.join(ROOT, "python"))
 import reference
 import rokzimp
-from rokzimp import Refused, partner_view, piece_rows, piece_start, row_view, strip, whole_frame
+from rokzimp import Refused, mosaic_back, partner_view, piece_rows, piece_start, row_view, strip, whole_frame
 
 
 def samples(numbers):
@@ -47,6 +47,12 @@ def random_mosaic(rng, count):
 def piece_of(mosaic, width, height, first, rows):
     start = piece_start(first) * width
     return memoryview(mosaic)[start:start + piece_rows(height, first, rows) * width]
+
+
+def camera_planes(rng, width, layout, first, lengths):
+    """Planes of rows from `first` on: a multiple of 16 where the sample is observed, elsewhere anything."""
+    return [samples(16 * rng.randrange(4096) if reference.colour(layout, first + k // width, k % width) == colour else rng.randrange(65536)
+                    for k in range(length)) for colour, length in enumerate(lengths)]
 
 
 class Test(unittest.TestCase):
@@ -185,15 +191,19 @@ class Test(unittest.TestCase):
         self.assertTrue(numpy.shares_memory(numpy.asarray(row_view(got[0], 8, 4)), got[0]))
         with self.assertRaises(BufferError):
             whole_frame(8, 10, 1, got[0][:, ::2], *got)
+        back = numpy.zeros((10, 8), numpy.uint16)
+        self.assertIs(mosaic_back(8, 10, 1, 0, 10, *got, back), back)
+        self.assertTrue((back == mosaic).all())
 
     def test_nothing_is_copied(self):
-        mosaic, lent = bytes(2 * 1024 * 64), [bytearray(2 * 1024 * 64) for _ in range(3)]
+        mosaic, *lent, back = bytes(2 * 1024 * 64), *(bytearray(2 * 1024 * 64) for _ in range(4))
         whole_frame(1024, 64, 0, mosaic, *lent)
         tracemalloc.start()
         try:
             whole_frame(1024, 64, 0, mosaic, *lent, 16)
             row_view(lent[0], 1024, 3)
             partner_view(lent[0], lent[2], 1024, 64, 0, 3)
+            mosaic_back(1024, 64, 0, 0, 64, *lent, back)
             self.assertLess(tracemalloc.get_traced_memory()[1], 20000)
         finally:
             tracemalloc.stop()
@@ -265,6 +275,125 @@ class Test(unittest.TestCase):
             thread.join()
         self.assertEqual(tuple(lent), wanted)
 
+    # the mosaic back
+
+    def test_there_and_back(self):
+        rng = random.Random(7)
+        for width, height in ((8, 8), (9, 8), (8, 15), (13, 31)):
+            for layout in range(4):
+                mosaic = random_mosaic(rng, width * height)
+                back = mosaic_back(width, height, layout, 0, height, *whole_frame(width, height, layout, mosaic))
+                self.assertIsInstance(back, array.array)
+                self.assertEqual(back, mosaic)
+                for first in range(height):
+                    rows = rng.randrange(1, height - first + 1)
+                    lent = planes(rows * width)
+                    strip(width, height, layout, first, rows, piece_of(mosaic, width, height, first, rows), *lent)
+                    self.assertEqual(mosaic_back(width, height, layout, first, rows, *lent), mosaic[first * width:(first + rows) * width])
+
+    def test_mosaic_back_refusals(self):
+        (red, green, blue), mosaic = planes(64, 1600), samples([7] * 64)
+        whole = (0, 8, red, green, blue, mosaic)
+        self.refused(1, mosaic_back, 7, 8, 0, *whole)
+        self.refused(1, mosaic_back, 8, 4097, 0, *whole)
+        self.refused(1, mosaic_back, 8, -8, 0, *whole)
+        self.refused(1, mosaic_back, 2 ** 64 + 8, 8, 0, *whole)
+        self.refused(2, mosaic_back, 8, 8, 4, *whole)
+        self.refused(2, mosaic_back, 8, 8, 256, *whole)
+        self.refused(2, mosaic_back, 8, 8, -1, *whole)
+        for first, rows in ((0, 0), (8, 0), (1, 8), (9, 1), (1, 2 ** 64 - 1), (2 ** 64 - 1, 1), (2 ** 64 - 8, 8), (2 ** 64, 8)):
+            self.refused(3, mosaic_back, 8, 8, 0, first, rows, red, green, blue, mosaic)
+        for k in range(4):
+            for length in (0, 56, 63, 65, 72, 128):
+                lent = [red, green, blue, mosaic]
+                lent[k] = samples([1600] * length)
+                self.refused(5, mosaic_back, 8, 8, 0, 0, 8, *lent)
+                self.assertEqual(lent[k], samples([1600] * length))
+                self.assertEqual((red, green, blue, mosaic), (*planes(64, 1600), samples([7] * 64)))
+        self.refused(5, mosaic_back, 8, 8, 0, 0, 7, red, green, blue, mosaic)
+        # without a mosaic, and with sizes for which none is made
+        for number, words in ((1, (4097, 8, 0, 0, 8)), (1, (2 ** 63, 8, 0, 0, 2 ** 63)), (1, (8, 4097, 0, 0, 4097)), (2, (8, 8, 4, 0, 8)),
+                              (3, (8, 8, 0, 0, 2 ** 64 - 1)), (3, (8, 8, 0, 0, -1)), (3, (8, 8, 0, 0, 0)), (5, (8, 8, 0, 0, 7)),
+                              (5, (9, 8, 0, 0, 8))):
+            self.refused(number, mosaic_back, *words, red, green, blue)
+        self.assertEqual(mosaic_back(8, 8, 0, 0, 8, red, green, blue), samples([100] * 64))
+
+    def test_mosaic_back_order(self):
+        """Everything wrong, then one thing less each time."""
+        right, wrong, short = samples([1600] * 64), samples([17] * 64), samples([7] * 63)
+        words, lent = [7, 8, 4, 1, 8], [wrong, wrong, wrong[:63], short]
+        for number, into, k, better in ((1, words, 0, 8), (2, words, 2, 0), (3, words, 3, 0), (5, lent, 2, wrong),
+                                        (5, lent, 3, samples([7] * 64)), (9, lent, 0, right), (9, lent, 1, right), (9, lent, 2, right)):
+            self.refused(number, mosaic_back, *words, *lent)
+            self.assertEqual(lent[3], samples([7] * len(lent[3])))
+            into[k] = better
+        self.assertEqual(mosaic_back(*words, *lent), samples([100] * 64))
+
+    def test_not_camera_planes(self):
+        """A wrong sample at every place of each plane: refused where it is observed, and only there."""
+        rng = random.Random(9)
+        width, first, rows = 9, 3, 4
+        count = rows * width
+        for layout in range(4):
+            right = camera_planes(rng, width, layout, first, [count] * 3)
+            wanted = mosaic_back(width, 8, layout, first, rows, *right)
+            for k in range(count):
+                own = reference.colour(layout, first + k // width, k % width)
+                self.assertEqual(wanted[k], right[own][k] // 16)
+                for colour in range(3):
+                    sixteens = 16 * rng.randrange(1, 4096)
+                    for value in (1, 8, 17, 65519, 65521, 65535, sixteens - 1, sixteens + 1):
+                        lent, mosaic = [plane[:] for plane in right], samples(range(count))
+                        lent[colour][k] = value
+                        if colour == own:
+                            self.refused(9, mosaic_back, width, 8, layout, first, rows, *lent, mosaic)
+                            self.assertEqual(mosaic, samples(range(count)))
+                        else:
+                            self.assertEqual(mosaic_back(width, 8, layout, first, rows, *lent, mosaic), wanted)
+                lent = [plane[:] for plane in right]
+                for value in (0, 16, 65504, 65520):
+                    lent[own][k] = value
+                    self.assertEqual(mosaic_back(width, 8, layout, first, rows, *lent)[k], value // 16)
+
+    def test_edited_samples_do_not_come_back(self):
+        rng = random.Random(10)
+        for layout in range(4):
+            mosaic = random_mosaic(rng, 90)
+            right = whole_frame(9, 10, layout, mosaic)
+            edited = [samples(value if reference.colour(layout, k // 9, k % 9) == colour else 65535 for k, value in enumerate(plane))
+                      for colour, plane in enumerate(right)]
+            back = mosaic_back(9, 10, layout, 0, 10, *edited)
+            self.assertEqual(back, mosaic)
+            self.assertEqual(whole_frame(9, 10, layout, back), right)
+            for plane, other in zip(right, edited):
+                self.assertNotEqual(plane, other)
+
+    def test_mosaic_back_of_any_buffer(self):
+        mosaic = random_mosaic(random.Random(11), 90)
+        lent = [plane.tobytes() for plane in whole_frame(9, 10, 2, mosaic)]
+        for made in (bytearray(180), memoryview(bytearray(180)).cast("H", (10, 9)), (ctypes.c_uint16 * 90)(),
+                     memoryview(bytearray(184))[2:182]):
+            self.assertIs(mosaic_back(9, 10, 2, 0, 10, *lent, made), made)
+            self.assertEqual(bytes(made), mosaic.tobytes())
+        plane = samples([1600] * 64)
+        self.assertEqual(mosaic_back(8, 8, 0, 0, 8, plane, plane, plane), samples([100] * 64))
+
+    def test_mosaic_back_not_lent(self):
+        lent, mosaic = planes(64, 1600), samples([7] * 64)
+        with self.assertRaises(BufferError):
+            mosaic_back(8, 8, 0, 0, 8, *lent, bytes(128))
+        for wrong, error in ((array.array("h", [16] * 64), TypeError), ([16] * 64, TypeError), (bytes(127), BufferError)):
+            for k in range(4):
+                with self.assertRaises(error):
+                    mosaic_back(8, 8, 0, 0, 8, *(wrong if c == k else buffer for c, buffer in enumerate((*lent, mosaic))))
+        long = samples([1600] * 127)
+        first, last = memoryview(long)[:64], memoryview(long)[63:]
+        for overlapping in ((*lent, lent[0]), (*lent, lent[1]), (*lent, lent[2]), (first, *lent[1:], last), (*lent[1:], last, first)):
+            with self.assertRaises(ValueError) as caught:
+                mosaic_back(8, 8, 0, 0, 8, *overlapping)
+            self.assertNotIsInstance(caught.exception, Refused)
+        self.assertEqual((lent, mosaic, long), (planes(64, 1600), samples([7] * 64), samples([1600] * 127)))
+
     # the other implementation
 
     def test_reference_frames(self):
@@ -294,6 +423,28 @@ class Test(unittest.TestCase):
             except Refused as refused:
                 self.assertEqual(number, refused.number)
             self.assertEqual([p.tolist() for p in got], wanted)
+
+    def test_reference_mosaic_back(self):
+        rng, seen = random.Random(12), set()
+        for k in range(600):
+            width, height, layout = rng.randrange(6, 16), rng.randrange(6, 30), rng.choice((0, 1, 2, 3, 0, 1, 2, 3, 4))
+            first = rng.randrange(height + 1)
+            rows = rng.randrange(min(5, height - first + 2))
+            *lengths, count = [max(0, rows * width + rng.choice((0,) * 20 + (1, -1, width, -width))) for _ in range(4)]
+            lent = camera_planes(rng, width, layout % 4, first, lengths)
+            for colour in rng.choices(range(3), k=rng.randrange(3)):
+                if lengths[colour]:
+                    lent[colour][rng.randrange(lengths[colour])] = rng.choice((1, 17, 32, 65519, 65520, 65521, 65535, rng.randrange(65536)))
+            wanted, got, before = [5] * count, samples([5] * count), [plane[:] for plane in lent]
+            number = reference.mosaic_back(RULES, reference.Frame(width, height, layout), first, rows, lent, wanted)
+            try:
+                self.assertIs(mosaic_back(width, height, layout, first, rows, *lent, got), got)
+                self.assertEqual(number, 0)
+            except Refused as refused:
+                self.assertEqual(number, refused.number)
+            self.assertEqual((got.tolist(), lent), (wanted, before))
+            seen.add(number)
+        self.assertEqual(seen, {0, 1, 2, 3, 5, 9})
 
     # pictures
 
@@ -334,6 +485,42 @@ class Test(unittest.TestCase):
             pixel = lines[i * (3 * width + 1) + 1 + 3 * j:][:3]
             self.assertEqual(list(pixel), [plane[i * width + j] // 256 for plane in wanted])
 
+    def run_back(self, files, *words):
+        """The tool on files of these contents: its exit status, what it printed, and the frame file, None where there is none."""
+        with tempfile.TemporaryDirectory() as folder:
+            name, out = os.path.join(folder, "planes"), os.path.join(folder, "frame")
+            for end in ("red", "green", "blue"):
+                with open(name + "." + end, "wb") as file:
+                    file.write(files[end])
+            tool = os.path.join(ROOT, "tools", "planes_to_frame.py")
+            run = subprocess.run([sys.executable, tool, *map(str, words), name, out], stdout=subprocess.PIPE)
+            if not os.path.exists(out):
+                return run.returncode, run.stdout, None
+            with open(out, "rb") as file:
+                return run.returncode, run.stdout, file.read()
+
+    def test_planes_to_frame(self):
+        width, height = 80, 61
+        for layout in range(4):
+            mosaic = random_mosaic(random.Random(13 + layout), width * height)
+            data = struct.pack(">BIHHB", 1, 5 + 2 * len(mosaic), width, height, layout) + struct.pack(">%dH" % len(mosaic), *mosaic)
+            code, said, back = self.run_back(self.run_tool(data)[2], width, height, layout)
+            self.assertEqual((code, said), (0, b""))
+            self.assertEqual(back, data)
+
+    def test_planes_to_frame_refused(self):
+        flat = struct.pack(">64H", *[1600] * 64)
+        files = dict(red=flat, green=flat, blue=flat)
+        for number, words in ((1, (7, 8, 0)), (1, (8, 70000, 0)), (1, (-8, 8, 0)), (2, (8, 8, 4)), (2, (8, 8, 256)), (5, (8, 9, 0))):
+            self.assertEqual(self.run_back(files, *words), (1, b"refused %d\n" % number, None))
+        for end in files:
+            for plane in (b"", flat[:-2], flat + b"\0\0", flat[:-1], flat + b"\0"):
+                self.assertEqual(self.run_back({**files, end: plane}, 8, 8, 0), (1, b"refused 5\n", None))
+            self.assertEqual(self.run_back({**files, end: flat[:-1]}, 8, 8, 4), (1, b"refused 2\n", None))
+            for plane in (struct.pack(">64H", *[1601] * 64), struct.pack(">64H", *[65535] * 64), struct.pack("<64H", *[1600] * 64)):
+                self.assertEqual(self.run_back({**files, end: plane}, 8, 8, 0), (1, b"refused 9\n", None))
+        self.assertEqual(self.run_back(files, 8, 8, 0), (0, b"", struct.pack(">BIHHB64H", 1, 133, 8, 8, 0, *[100] * 64)))
+
     def test_readme(self):
         """The README's C, Python and picture examples do what it says."""
         with open(os.path.join(ROOT, "README.md")) as file:
@@ -349,15 +536,18 @@ class Test(unittest.TestCase):
                 file.write(program)
             library = os.path.join(ROOT, "target", "lib", "librokzimp.a")
             subprocess.run(["gcc", "-I", os.path.join(ROOT, "include"), "-o", binary, source, library], check=True)
-            self.assertEqual(subprocess.run([binary], capture_output=True, check=True).stdout, b"0 1600 1600 1600\n")
+            self.assertEqual(subprocess.run([binary], capture_output=True, check=True).stdout, b"0 1600 1600 1600\n0 100\n")
             ran = subprocess.run([sys.executable, "-c", script], capture_output=True, check=True, cwd=ROOT)
-            self.assertEqual(ran.stdout, b"7 no such row\n")
+            self.assertEqual(ran.stdout, b"True\n7 no such row\n")
             frame = os.path.join(ROOT, "crates", "planes", "stdin")
             subprocess.run([os.path.join(ROOT, "tools", "frame_to_png.py"), frame, out], check=True)
             with open(out + ".red", "rb") as file:
                 self.assertEqual(file.read(), struct.pack(">64H", *[1600] * 64))
             with open(out + ".png", "rb") as file:
                 self.assertEqual(file.read(8), b"\x89PNG\r\n\x1a\n")
+            subprocess.run([os.path.join(ROOT, "tools", "planes_to_frame.py"), "8", "8", "0", out, out + ".frame"], check=True)
+            with open(out + ".frame", "rb") as file, open(frame, "rb") as before:
+                self.assertEqual(file.read(), before.read())
 
     def test_files_refused(self):
         flat = struct.pack(">BIHHB64H", 1, 133, 8, 8, 0, *[100] * 64)

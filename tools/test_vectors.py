@@ -45,6 +45,16 @@ def strip(case):
     return [number] + [n for plane in planes for n in vectors.lst(plane)]
 
 
+def mosaic_back(case):
+    width, height, layout, first, rows = case.ns(5)
+    *planes, mosaic = [samples(case.l()) for _ in range(4)]
+    lent = [plane[:] for plane in planes]
+    number = number_of(rokzimp.mosaic_back, width, height, layout, first, rows, *lent, mosaic)
+    if lent != planes:
+        return ["a plane was written"]
+    return [number] + vectors.lst(mosaic)
+
+
 def place(view, plane):
     """Where the view starts in the plane, which holds 0 only, and how long it is: what is written through the view shows there."""
     view[-1] = 2
@@ -79,7 +89,7 @@ def program(case):
     return vectors.lst(ran.stdout)
 
 
-TRIED = {"S": strip, "V": row_view, "Q": partner_view, "P": program}
+TRIED = {"S": strip, "V": row_view, "Q": partner_view, "P": program, "M": mosaic_back}
 
 
 def refused(kind, answer):

@@ -1,11 +1,12 @@
 /* Megapixels per second of one thread on a 4096 by 4096 frame: the proved library beside strip_general of reference/demosaic.c in its
  * two builds, in whole numbers and with quotients guessed in floating point and put right (-DFPDIV); in strips of 1, 16, 64 and 4096
- * rows of random readings, and whole for other readings; and the memory that each uses beside the mosaic and the planes.
+ * rows of random readings, and whole for other readings; the mosaic back of the whole frame, beside a plain function below; and the
+ * memory that each uses beside the mosaic and the planes.
  *
  *   bench [seconds]    time spent at the least on each figure (default 2)
  *
- * Times are processor time of this thread, so a shared machine disturbs them less. The three are timed in turn, and the best
- * turn of each counts. Their planes are compared after each figure. */
+ * Times are processor time of this thread, so a shared machine disturbs them less. Those of a figure are timed in turn, and the best
+ * turn of each counts. Their planes, or mosaics, are compared after each figure. */
 #define _GNU_SOURCE
 #include <pthread.h>
 #include <stdint.h>
@@ -40,7 +41,7 @@ void counted_free(void *q) {
 enum { SIZE = 4096 };
 enum { LIBRARY, WHOLE, FP, EACH };
 static const char *const names[EACH] = {"library", "demosaic.c", "-DFPDIV"};
-static uint16_t *mosaic, *planes[EACH][3];
+static uint16_t *mosaic, *planes[EACH][3], *back[2];
 
 static double now(void) {
     struct timespec t;
@@ -73,13 +74,57 @@ static void frame(int who, size_t rows) {
     }
 }
 
+/* The mosaic back, written plainly: it too tests all before it writes. In 16 bits no multiple of 16 is above 65520. With noipa it is
+ * compiled for any call, as the library is. */
+__attribute__((noipa)) static uint32_t
+plain_back(size_t W, size_t H, uint8_t layout, size_t a, size_t n, const uint16_t *red, size_t red_count, const uint16_t *green,
+           size_t green_count, const uint16_t *blue, size_t blue_count, uint16_t *restrict out, size_t out_count) {
+    static const uint8_t colours[4][2][2] = {{{0, 1}, {1, 2}}, {{1, 0}, {2, 1}}, {{1, 2}, {0, 1}}, {{2, 1}, {1, 0}}};
+    const uint16_t *const plane[3] = {red, green, blue};
+    if (W < LEAST || W > 4096 || H < LEAST || H > 4096) return 1;
+    if (layout > 3) return 2;
+    if (n == 0 || a > H || n > H - a) return 3;
+    if (red_count != n * W || green_count != n * W || blue_count != n * W || out_count != n * W) return 5;
+    for (int write = 0; write <= 1; write++)
+        for (size_t i = 0; i < n; i++) {
+            const uint8_t *colour = colours[layout][(a + i) % 2];
+            const uint16_t *even = plane[colour[0]] + i * W, *odd = plane[colour[1]] + i * W;
+            if (write) {
+                uint16_t *row = out + i * W;
+                for (size_t j = 0; j + 1 < W; j += 2) {
+                    row[j] = even[j] / 16;
+                    row[j + 1] = odd[j + 1] / 16;
+                }
+                if (W % 2) row[W - 1] = even[W - 1] / 16;
+            } else {
+                uint16_t bits = W % 2 ? even[W - 1] : 0;
+                for (size_t j = 0; j + 1 < W; j += 2) bits |= even[j] | odd[j + 1];
+                if (bits % 16) return 9;
+            }
+        }
+    return 0;
+}
+
+/* the whole mosaic back, from the planes that the library made */
+static void mosaic_back(int plain) {
+    size_t samples = (size_t)SIZE * SIZE;
+    uint16_t **p = planes[LIBRARY];
+    uint32_t r = (plain ? plain_back : rokzimp_mosaic_back)(SIZE, SIZE, 0, 0, SIZE, p[0], samples, p[1], samples, p[2], samples,
+                                                            back[plain], samples);
+    if (r) { printf("refused %u\n", r); exit(1); }
+}
+
 /* the stack that one call takes: run on a stack of a known pattern, and see how deep it was overwritten */
 static void *one_call(void *who) {
     frame(*(int *)who, SIZE);
     return 0;
 }
+static void *one_back(void *plain) {
+    mosaic_back(*(int *)plain);
+    return 0;
+}
 
-static size_t stack_used(int who) {
+static size_t stack_used(void *(*call)(void *), int who) {
     size_t size = 4 << 20;
     unsigned char *s = mmap(0, size, PROT_READ | PROT_WRITE, MAP_PRIVATE | MAP_ANONYMOUS | MAP_STACK, -1, 0);
     if (s == MAP_FAILED) abort();
@@ -88,7 +133,7 @@ static size_t stack_used(int who) {
     pthread_attr_init(&attr);
     pthread_attr_setstack(&attr, s, size);
     pthread_t t;
-    if (pthread_create(&t, &attr, one_call, &who)) abort();
+    if (pthread_create(&t, &attr, call, &who)) abort();
     pthread_join(t, 0);
     size_t k = 0;
     while (k < size && s[k] == 0xa5) k++;
@@ -105,6 +150,10 @@ int main(int argc, char **argv) {
             planes[who][c] = malloc(samples * 2);
             memset(planes[who][c], who, samples * 2); /* not the same before */
         }
+    for (int plain = 0; plain < 2; plain++) {
+        back[plain] = malloc(samples * 2);
+        memset(back[plain], 0xf0 + plain, samples * 2);
+    }
     struct { int contents; size_t rows; } const figures[] = {{0, 1}, {0, 16}, {0, 64}, {0, 4096}, {1, 4096}, {2, 4096}};
     int bad = 0;
     printf("4096 by 4096, one thread; megapixels per second; ratios of the library to each build of demosaic.c\n");
@@ -131,15 +180,30 @@ int main(int argc, char **argv) {
         printf(" %6.2f %6.2f%s\n", best[WHOLE] / best[LIBRARY], best[FP] / best[LIBRARY], differ ? "  PLANES DIFFER" : "");
         fflush(stdout);
     }
+    double best[2] = {1e9, 1e9}, spent = 0;
+    for (int turn = 0; turn < 2 || spent < 2 * seconds; turn++)
+        for (int plain = 0; plain < 2; plain++) {
+            double t = now();
+            mosaic_back(plain);
+            t = now() - t;
+            spent += t;
+            if (t < best[plain]) best[plain] = t;
+        }
+    int differ = memcmp(back[0], back[1], samples * 2) != 0 || memcmp(back[0], mosaic, samples * 2) != 0;
+    bad |= differ;
+    printf("the mosaic back, the whole frame: library %.1f, a plain C function %.1f, ratio %.2f%s\n", (double)samples / best[0] * 1e-6,
+           (double)samples / best[1] * 1e-6, best[1] / best[0], differ ? "  MOSAICS DIFFER" : "");
     printf("memory beside the mosaic and the planes, the thread's own few thousand bytes of stack included:\n");
-    printf("  %-10s %8zu bytes of stack, no heap\n", names[LIBRARY], stack_used(LIBRARY));
+    printf("  %-10s %8zu bytes of stack, %zu for the mosaic back, no heap\n", names[LIBRARY], stack_used(one_call, LIBRARY),
+           stack_used(one_back, 0));
     for (int who = WHOLE; who < EACH; who++) {
         heap_most = 0;
-        size_t stack = stack_used(who);
+        size_t stack = stack_used(one_call, who);
         printf("  %-10s %8zu bytes of stack, %zu of heap\n", names[who], stack, heap_most);
     }
     struct rusage u;
     getrusage(RUSAGE_SELF, &u);
-    printf("largest resident set of this program: %ld KiB, of which mosaic and planes %zu KiB\n", u.ru_maxrss, (1 + 3 * EACH) * samples * 2 / 1024);
+    printf("largest resident set of this program: %ld KiB, of which mosaics and planes %zu KiB\n", u.ru_maxrss,
+           (3 + 3 * EACH) * samples * 2 / 1024);
     return bad;
 }

@@ -2,10 +2,11 @@
  *
  *   stress [cases [seed]]    default 100000 cases, seed 1
  *
- * Each case is a strip call, a row view and a partner view. Every buffer of a strip ends at a protected page, so a touch past its
- * end stops the program; every second case runs again with buffers that start just after a protected page. What is lent to be
- * read is mapped read-only, so a write to it stops the program too. A plane is compared whole, with up to 8 KB on each side of it.
- * The views are compared with their rule, worked out in 128 bits. */
+ * Each case is a strip call, a mosaic back, a row view and a partner view. Every buffer of a strip and of a mosaic back ends at a
+ * protected page, so a touch past its end stops the program; every second case runs again with buffers that start just after a
+ * protected page. What is lent to be read is mapped read-only, so a write to it stops the program too. What is written is compared
+ * whole, with up to 8 KB on each side of it. The mosaic back and the views are compared with their rules below, worked out in 128
+ * bits where a sum or a product could wrap. */
 #define _GNU_SOURCE
 #include <signal.h>
 #include <stdint.h>
@@ -64,9 +65,8 @@ static void mismatch(const char *what, uint64_t got, uint64_t asked) {
     if (mismatches++ < 20)
         printf("MISMATCH in case %llu: %s is %llu, asked %llu\n", (unsigned long long)the_case, what, (unsigned long long)got, (unsigned long long)asked);
 }
-static void differs(int colour, uint32_t number) {
-    static const char *const names[3] = {"red", "green", "blue"};
-    if (mismatches++ < 20) printf("MISMATCH in case %llu, number %u: the %s plane\n", (unsigned long long)the_case, number, names[colour]);
+static void differs(const char *what, uint32_t number) {
+    if (mismatches++ < 20) printf("MISMATCH in case %llu, number %u: %s\n", (unsigned long long)the_case, number, what);
 }
 static void same(const char *what, uint64_t got, uint64_t asked) {
     if (got != asked) mismatch(what, got, asked);
@@ -109,39 +109,68 @@ static void readings(uint16_t *p, size_t len) {
     }
 }
 
-static Room piece, plane[3];
+/* what a buffer holds before it is written: it, and up to 4096 samples of the room on each side, are compared afterwards */
+static size_t around_from(size_t at) { return at < 4096 ? 0 : at - 4096; }
+static size_t around_to(size_t at, size_t len) { return at + len + 4096 > ROOM ? ROOM : at + len + 4096; }
+static void before(uint16_t *fill, uint16_t *expected, size_t at, size_t len, uint64_t g) {
+    for (size_t k = around_from(at); k < around_to(at, len); k++) {
+        g = g * 6364136223846793005u + 1442695040888963407u;
+        fill[k] = expected[k] = (uint16_t)(g >> 40);
+    }
+}
+static int after(const uint16_t *fill, const uint16_t *expected, size_t at, size_t len) { /* whether it is what is expected */
+    size_t from = around_from(at);
+    return memcmp(fill + from, expected + from, (around_to(at, len) - from) * 2) == 0;
+}
+
+enum { NUMBERS = 10 }; /* 0 and the refusals */
+static Room piece, seen[3], plane[3];
 static uint16_t *expected[3];
-static uint64_t strips[8], rows_seen[8], partners[8], calls;
+static uint64_t strips[NUMBERS], backs[NUMBERS], rows_seen[NUMBERS], partners[NUMBERS], calls, back_calls;
+
+typedef struct { uint64_t W, H, layout, a, n; } Call;
+
+static Call whole_call(void) {
+    Call c;
+    c.layout = below(4);
+    for (;;) {
+        c.W = size();
+        c.H = size();
+        c.a = one_in(4) ? below(20) : one_in(3) ? c.H - 1 - below(c.H < 20 ? c.H : 20) : below(c.H);
+        if (c.a >= c.H) c.a = c.H - 1;
+        c.n = one_in(3) ? 1 : one_in(3) ? c.H - c.a : 1 + below(c.H - c.a < 40 ? c.H - c.a : 40);
+        uint64_t hi = c.a + c.n + 7 < c.H ? c.a + c.n + 7 : c.H, lo = c.a < 7 ? 0 : c.a - 7;
+        if ((hi - lo) * c.W <= (one_in(15) ? ROOM : 12000)) return c;
+    }
+}
+static void damage(Call *c, uint64_t which) { /* one of the five numbers, mostly to a wrong one */
+    switch (which) {
+    case 0: c->W = one_in(2) ? odd_number() : c->W + 1 - 2 * below(2); break;
+    case 1: c->H = one_in(2) ? odd_number() : c->H + 1 - 2 * below(2); break;
+    case 2: c->layout = one_in(2) ? 4 : below(256); break;
+    case 3: c->a = one_in(2) ? odd_number() : c->H - c->n + 1; break;
+    default: c->n = one_in(3) ? 0 : one_in(2) ? odd_number() : one_in(2) ? c->H - c->a + 1 : (uint64_t)0 - c->a; break;
+    }
+}
 
 static void strip_case(int twice) {
+    static const char *const names[3] = {"the red plane", "the green plane", "the blue plane"};
     /* a whole call first */
-    uint64_t W, H, a, n, layout = below(4);
-    for (;;) {
-        W = size();
-        H = size();
-        a = one_in(4) ? below(20) : one_in(3) ? H - 1 - below(H < 20 ? H : 20) : below(H);
-        if (a >= H) a = H - 1;
-        n = one_in(3) ? 1 : one_in(3) ? H - a : 1 + below(H - a < 40 ? H - a : 40);
-        uint64_t hi = a + n + 7 < H ? a + n + 7 : H, lo = a < 7 ? 0 : a - 7;
-        if ((hi - lo) * W <= (one_in(15) ? ROOM : 12000)) break;
-    }
-    uint64_t lo = a < 7 ? 0 : a - 7, hi = a + n + 7 < H ? a + n + 7 : H;
-    size_t len = (size_t)((hi - lo) * W), lens[3];
-    for (int c = 0; c < 3; c++) lens[c] = (size_t)(n * W);
+    Call call = whole_call();
+    uint64_t lo = call.a < 7 ? 0 : call.a - 7, hi = call.a + call.n + 7 < call.H ? call.a + call.n + 7 : call.H;
+    size_t len = (size_t)((hi - lo) * call.W), lens[3];
+    for (int c = 0; c < 3; c++) lens[c] = (size_t)(call.n * call.W);
     /* then the damage */
     int over = 0;
     if (!one_in(3))
-        for (uint64_t k = 1 + below(2); k > 0; k--)
-            switch (below(9)) {
-            case 0: W = one_in(2) ? odd_number() : W + 1 - 2 * below(2); break;
-            case 1: H = one_in(2) ? odd_number() : H + 1 - 2 * below(2); break;
-            case 2: layout = one_in(2) ? 4 : below(256); break;
-            case 3: a = one_in(2) ? odd_number() : H - n + 1; break;
-            case 4: n = one_in(3) ? 0 : one_in(2) ? odd_number() : one_in(2) ? H - a + 1 : (uint64_t)0 - a; break;
-            case 5: len = other_length(len, W); break;
-            case 6: { int c = (int)below(3); lens[c] = other_length(lens[c], W); break; }
-            default: over = 1; break;
-            }
+        for (uint64_t k = 1 + below(2); k > 0; k--) {
+            uint64_t which = below(9);
+            if (which < 5) damage(&call, which);
+            else if (which == 5) len = other_length(len, call.W);
+            else if (which == 6) { int c = (int)below(3); lens[c] = other_length(lens[c], call.W); }
+            else over = 1;
+        }
+    uint64_t W = call.W, H = call.H, layout = call.layout, a = call.a, n = call.n;
     size_t at_high = over && len ? (one_in(3) ? 0 : one_in(2) ? len - 1 : (size_t)below(len)) : 0;
     uint64_t start = rnd();
 
@@ -154,13 +183,7 @@ static void strip_case(int twice) {
             memmove(piece.fill + from, piece.fill + place(0, len), len * 2);
         for (int c = 0; c < 3; c++) {
             at[c] = place(round, lens[c]);
-            /* what the plane holds before: it, and the same stretch of room beside it, are compared afterwards */
-            size_t lo_c = at[c] < 4096 ? 0 : at[c] - 4096, hi_c = at[c] + lens[c] + 4096 > ROOM ? ROOM : at[c] + lens[c] + 4096;
-            uint64_t g = start + (uint64_t)c;
-            for (size_t k = lo_c; k < hi_c; k++) {
-                g = g * 6364136223846793005u + 1442695040888963407u;
-                plane[c].fill[k] = expected[c][k] = (uint16_t)(g >> 40);
-            }
+            before(plane[c].fill, expected[c], at[c], lens[c], start + (uint64_t)c);
         }
         int asked = strip_general(W, H, (int)layout, -1, -1, a, n, 0, -1, 0, piece.lent + from, len, expected[0] + at[0], lens[0],
                                   expected[1] + at[1], lens[1], expected[2] + at[2], lens[2]);
@@ -169,11 +192,9 @@ static void strip_case(int twice) {
         calls++;
         same("the number of the check", rokzimp_strip_check(W, H, (uint8_t)layout, a, n, piece.lent + from, len, lens[0], lens[1], lens[2]), (uint64_t)asked);
         same("the strip's number", got, (uint64_t)asked);
-        strips[got < 8 ? got : 0]++;
-        for (int c = 0; c < 3; c++) {
-            size_t lo_c = at[c] < 4096 ? 0 : at[c] - 4096, hi_c = at[c] + lens[c] + 4096 > ROOM ? ROOM : at[c] + lens[c] + 4096;
-            if (memcmp(plane[c].fill + lo_c, expected[c] + lo_c, (hi_c - lo_c) * 2)) differs(c, got);
-        }
+        strips[got < NUMBERS ? got : 0]++;
+        for (int c = 0; c < 3; c++)
+            if (!after(plane[c].fill, expected[c], at[c], lens[c])) differs(names[c], got);
     }
     /* the rows of the piece, for any numbers */
     uint64_t h = one_in(2) ? H : odd_number(), b = one_in(2) ? a : odd_number(), m = one_in(2) ? n : odd_number();
@@ -182,8 +203,91 @@ static void strip_case(int twice) {
     same("the piece's rows", rokzimp_piece_rows(h, b, m), last < first ? 0 : (uint64_t)(last - first));
 }
 
-static int lacks(size_t len, uint64_t W, uint64_t row) { return (wide)len < ((wide)row + 1) * W; }
 static int off(uint64_t n) { return n < LEAST || n > 4096; }
+
+/* The mosaic back as the papers have it. 0 is red, 1 green, 2 blue: by layout, row and column. */
+static const int colours[4][2][2] = {{{0, 1}, {1, 2}}, {{1, 0}, {2, 1}}, {{1, 2}, {0, 1}}, {{2, 1}, {1, 0}}};
+
+static uint32_t back_rule(Call c, const uint16_t *const planes[3], const size_t lens[3], uint16_t *mosaic, size_t len) {
+    if (off(c.W) || off(c.H)) return 1;
+    if (c.layout > 3) return 2;
+    if (c.n == 0 || (wide)c.a + c.n > c.H) return 3;
+    wide asked = (wide)c.n * c.W;
+    if (lens[0] != asked || lens[1] != asked || lens[2] != asked || len != asked) return 5;
+    for (int write = 0; write <= 1; write++)
+        for (size_t i = 0; i < c.n; i++)
+            for (size_t j = 0; j < c.W; j++) {
+                uint16_t sample = planes[colours[c.layout][(c.a + i) % 2][j % 2]][i * c.W + j];
+                if (sample % 16 != 0 || sample > 65520) return 9;
+                if (write) mosaic[i * c.W + j] = sample / 16;
+            }
+    return 0;
+}
+
+/* a plane of rows from row a on: readings times 16 where its samples are observed, elsewhere anything, of a few kinds */
+static void camera_plane(uint16_t *p, size_t len, int colour, uint64_t W, uint64_t layout, uint64_t a) {
+    uint64_t kind = below(4), g = rnd();
+    readings(p, len);
+    for (size_t at = 0; at < len; at += (size_t)W, a++)
+        for (size_t j = 0; j < W && at + j < len; j++) {
+            g = g * 6364136223846793005u + 1442695040888963407u;
+            uint64_t x = g >> 40;
+            p[at + j] = (uint16_t)(colours[layout][a % 2][j % 2] == colour || kind == 0 ? 16 * p[at + j]
+                                   : kind == 1 ? 65535 : kind == 2 ? 16 * (x % 4096) + 1 : x);
+        }
+}
+
+static void back_case(int twice) {
+    Call call = whole_call();
+    uint64_t W = call.W; /* by which the planes are filled, whatever width the call then names */
+    size_t len = (size_t)(call.n * W), lens[3], at_wrong[3];
+    int wrong[3] = {0, 0, 0};
+    for (int c = 0; c < 3; c++) lens[c] = len;
+    if (one_in(2))
+        for (uint64_t k = 1 + below(2); k > 0; k--) {
+            uint64_t which = below(12);
+            if (which < 5) damage(&call, which);
+            else if (which == 5) len = other_length(len, W);
+            else if (which == 6) { int c = (int)below(3); lens[c] = other_length(lens[c], W); }
+            else wrong[below(3)] = 1;
+        }
+    /* a wrong sample stands mostly where it is observed */
+    for (int c = 0; c < 3; c++) {
+        wrong[c] = wrong[c] && lens[c];
+        size_t k = one_in(3) ? 0 : one_in(2) ? lens[c] - 1 : (size_t)below(lens[c]);
+        for (int tries = 0; wrong[c] && tries < 8 && colours[call.layout % 4][(call.a + k / W) % 2][k % W % 2] != c; tries++)
+            k = (size_t)below(lens[c]);
+        at_wrong[c] = k;
+    }
+    uint64_t start = rnd();
+
+    for (int round = 0; round <= twice; round++) {
+        size_t from[3], at = place(round, len);
+        for (int c = 0; c < 3; c++) {
+            from[c] = place(round, lens[c]);
+            uint16_t *p = seen[c].fill + from[c];
+            if (round == 0) {
+                camera_plane(p, lens[c], c, W, call.layout % 4, call.a);
+                if (wrong[c]) p[at_wrong[c]] = one_in(4) ? 65535 : one_in(3) ? 65521 : (uint16_t)(16 * below(4096) + 1 + below(15));
+            } else
+                memmove(p, seen[c].fill + place(0, lens[c]), lens[c] * 2);
+        }
+        before(plane[0].fill, expected[0], at, len, start);
+        const uint16_t *const lent[3] = {seen[0].lent + from[0], seen[1].lent + from[1], seen[2].lent + from[2]};
+        uint32_t asked = back_rule(call, lent, lens, expected[0] + at, len);
+        uint32_t check = rokzimp_mosaic_back_check(call.W, call.H, (uint8_t)call.layout, call.a, call.n, lent[0], lens[0], lent[1], lens[1],
+                                                   lent[2], lens[2], len);
+        uint32_t got = rokzimp_mosaic_back(call.W, call.H, (uint8_t)call.layout, call.a, call.n, lent[0], lens[0], lent[1], lens[1],
+                                           lent[2], lens[2], plane[0].lent + at, len);
+        back_calls++;
+        same("the number of the mosaic back's check", check, asked);
+        same("the mosaic back's number", got, asked);
+        backs[got < NUMBERS ? got : 0]++;
+        if (!after(plane[0].fill, expected[0], at, len)) differs("the mosaic", got);
+    }
+}
+
+static int lacks(size_t len, uint64_t W, uint64_t row) { return (wide)len < ((wide)row + 1) * W; }
 
 static void view_cases(int at_start) {
     uint64_t W = one_in(4) ? odd_number() : size(), H = one_in(6) ? odd_number() : size(), layout = one_in(8) ? below(256) : below(4);
@@ -211,9 +315,10 @@ static void view_cases(int at_start) {
 }
 
 static void show(const char *what, const uint64_t *counts) {
-    static const char *const words[8] = {"accepted", "off size", "unknown layout", "off the frame", "short halo", "plane misfit", "over range", "no such row"};
+    static const char *const words[NUMBERS] = {"accepted", "off size", "unknown layout", "off the frame", "short halo", "plane misfit",
+                                               "over range", "no such row", "torn file", "not camera planes"};
     printf("%s:", what);
-    for (int k = 0; k < 8; k++)
+    for (int k = 0; k < NUMBERS; k++)
         if (counts[k]) printf("  %s %llu", words[k], (unsigned long long)counts[k]);
     printf("\n");
 }
@@ -228,16 +333,20 @@ int main(int argc, char **argv) {
     signal(SIGILL, stopped);
     piece = room(1);
     for (int c = 0; c < 3; c++) {
+        seen[c] = room(1);
         plane[c] = room(0);
         expected[c] = malloc((size_t)ROOM * 2);
     }
     for (the_case = 0; the_case < cases; the_case++) {
         strip_case((int)(the_case % 2));
+        back_case((int)(the_case % 2));
         view_cases((int)(the_case % 2));
     }
-    printf("%llu cases, seed %llu; %llu strip calls, %llu row views, %llu partner views\n", (unsigned long long)cases, (unsigned long long)the_seed,
-           (unsigned long long)calls, (unsigned long long)cases, (unsigned long long)cases);
+    printf("%llu cases, seed %llu; %llu strip calls, %llu mosaics back, %llu row views, %llu partner views\n", (unsigned long long)cases,
+           (unsigned long long)the_seed, (unsigned long long)calls, (unsigned long long)back_calls, (unsigned long long)cases,
+           (unsigned long long)cases);
     show("strips", strips);
+    show("mosaics back", backs);
     show("row views", rows_seen);
     show("partner views", partners);
     printf("mismatches %llu\n", (unsigned long long)mismatches);

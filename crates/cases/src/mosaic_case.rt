@@ -36,19 +36,21 @@ fn call<'a>(
     io::write_all(1, b"\n");
 }
 
-// Lent samples as the case asks for.
-fn lend(f: &Fields, red: &mut [u16], green: &mut [u16], blue: &mut [u16], mosaic: &mut [u16]) {
-    let seed = f[11] % 4294967296;
-    recipe::plane(seed + 1, red);
-    recipe::plane(seed + 2, green);
-    recipe::plane(seed + 3, blue);
-    recipe::plane(seed + 4, mosaic);
-    recipe::round(f[10], f[12], red);
-    recipe::round(f[10], f[12] / 16, green);
-    recipe::round(f[10], f[12] / 256, blue);
+// The two samples that the case sets, and the call.
+fn set(f: &Fields, red: &mut [u16], green: &mut [u16], blue: &mut [u16], mosaic: &mut [u16]) {
     recipe::put_in(f[13], f[14], f[15], red, green, blue);
     recipe::put_in(f[16], f[17], f[18], red, green, blue);
     call(f, f[4], f[5], red, green, blue, mosaic);
+}
+
+// Lent samples as the case asks for.
+fn lend(f: &Fields, red: &mut [u16], green: &mut [u16], blue: &mut [u16], mosaic: &mut [u16]) {
+    let seed = f[11] % 4294967296;
+    recipe::camera_plane(seed + 1, f[10], f[12], red);
+    recipe::camera_plane(seed + 2, f[10], f[12] / 16, green);
+    recipe::camera_plane(seed + 3, f[10], f[12] / 256, blue);
+    recipe::plane(seed + 4, mosaic);
+    set(f, red, green, blue, mosaic);
 }
 
 // As much of the room as the case asks for.
@@ -75,8 +77,31 @@ pub fn run(f: &Fields) {
     cut(f, &mut red, &mut green, &mut blue, &mut mosaic);
 }
 
-// Planes that a strip call fills, and then the mosaic back from them.
+// The planes of a strip call, and then the mosaic back from them.
 fn there_and_back(
+    f: &Fields,
+    piece: &[u16],
+    red: &mut [u16],
+    green: &mut [u16],
+    blue: &mut [u16],
+    mosaic: &mut [u16],
+) {
+    rokzimp_strip(
+        f[1],
+        f[2],
+        layout(f[3]),
+        f[7],
+        f[8],
+        piece,
+        red,
+        green,
+        blue,
+    );
+    call(f, f[7], f[8], red, green, blue, mosaic);
+}
+
+// Lent samples as the case asks for.
+fn lend_strip(
     f: &Fields,
     piece: &mut [u16],
     red: &mut [u16],
@@ -90,18 +115,7 @@ fn there_and_back(
     recipe::plane(seed + 2, green);
     recipe::plane(seed + 3, blue);
     recipe::plane(seed + 4, mosaic);
-    rokzimp_strip(
-        f[1],
-        f[2],
-        layout(f[3]),
-        f[7],
-        f[8],
-        piece,
-        red,
-        green,
-        blue,
-    );
-    call(f, f[7], f[8], red, green, blue, mosaic);
+    there_and_back(f, piece, red, green, blue, mosaic);
 }
 
 fn cut_strip(
@@ -117,7 +131,7 @@ fn cut_strip(
     let g = least(f[11], green.len());
     let b = least(f[12], blue.len());
     let m = least(f[10], mosaic.len());
-    there_and_back(
+    lend_strip(
         f,
         &mut piece[0..p],
         &mut red[0..r],

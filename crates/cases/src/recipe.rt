@@ -131,16 +131,26 @@ fn bit(bits: usize, cell: usize) -> bool {
     bits / 8 % 2 == 1
 }
 
-// The samples of those cells, by the parities of row and column, whose bit is set, rounded down to a multiple of 16.
-pub fn round(width: usize, bits: usize, samples: &mut [u16]) {
+// Where the bit is set, the sample rounded down to a multiple of 16.
+fn rounded(set: bool, sample: u16) -> u16 {
+    if set { sample / 16 * 16 } else { sample }
+}
+
+// The samples of those cells, by the parities of row and column, whose bit is set, rounded.
+fn round(width: usize, bits: usize, samples: &mut [u16]) {
     let w = at_least_one(width);
     let mut t = 0;
     while t < samples.len() {
-        if bit(bits, t / w % 2 * 2 + t % w % 2) {
-            samples[t] = samples[t] / 16 * 16;
-        }
+        let set = bit(bits, t / w % 2 * 2 + t % w % 2);
+        samples[t] = rounded(set, samples[t]);
         t += 1;
     }
+}
+
+// What a plane holds from which the mosaic is given back.
+pub fn camera_plane(seed: usize, width: usize, bits: usize, samples: &mut [u16]) {
+    plane(seed, samples);
+    round(width, bits, samples);
 }
 
 // Sets a sample of the plane of this number: 0 red, 1 green, else blue.
