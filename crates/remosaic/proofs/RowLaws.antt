@@ -1,60 +1,96 @@
--- Row i of the observed samples, from the rows of the two planes that have its even and its odd columns. Assumes nothing.
+-- Row i of the observed samples, from the row in the green plane and in that of the colour that shares it. Assumes nothing.
 use Prim.Native.Nat.{ℕ, _+_, _*_, _%_, _≤_, _<_}
 use mathlib.Core.Path.{_≡_, refl, sym, ap, _∙_}
+use mathlib.Core.Bool.{Bool, true, false, cond}
 use mathlib.Core.List.{List}
-use native.Mathlib.Decide.{decLe}
-use native.Mathlib.Nat.{mul-le-mul-right}
+use native.Mathlib.Nat.{mod-mod, mul-le-mul, mul-le-mul-right}
 use native.Mathlib.Numerals.{add-one}
 use native.Mathlib.Omega.{arith}
-use borrow.Author.Tests.{eq-eqb, ne-eqb}
+use lib.Dec.{eqb}
 use lib.ListN.{length, getD}
 use Rattle.lists.specs.Part.{rowOf}
 use Rattle.lists.specs.Table.{table}
 use Rattle.lists.proofs.TableLaws.{table-same}
+use Rattle.lists.proofs.JoinedLaws.{part-within}
 use Rattle.lists.proofs.PartLaws.{row-length, row-entry}
 use Rattle.bayer.specs.declared.colour.Colour.{Colour}
+use Rattle.bayer.specs.declared.colour.Colour.the-variants.{Red, Green, Blue}
 use Rattle.bayer.specs.declared.frame.Frame.{Frame}
-use Rattle.bayer.specs.Colour.{colourAt}
+use Rattle.bayer.specs.Colour.{colours, colourAt, partner}
 use Rattle.bayer.specs.Condition.{FrameFits}
-use Rattle.bayer.specs.Planes.{Planes}
-use Rattle.bayer.proofs.ColourLaws.{parity-colour}
+use Rattle.bayer.specs.Parity.{isOdd, startsGreen}
+use Rattle.bayer.specs.Planes.{Planes, planeOf}
+use Rattle.bayer.proofs.ColourLaws.{cells, by-layout, partner-shares}
+use Rattle.bayer.proofs.ParityLaws.{starts-below}
 use Rattle.remosaic.specs.MosaicBack.{observed}
-use Rattle.remosaic.specs.Rows.{RowsLent, alternating}
+use Rattle.remosaic.specs.Rows.{RowsLent, observedIn}
 
-module _ (f : Frame) (a i : ℕ) (planes : Planes) where
-  -- the row in the plane that has its colour at column k
-  abbrev pub rowBy : (k : ℕ) → List ℕ
-  rowBy k = rowOf (f .width) i (planes (colourAt (f .layout) (a + i) k))
+-- ---- the colours of a row, by the parity of the column
 
-  -- it has the observed samples at the columns of this parity
-  column : (k j : ℕ) → j % 2 ≡ k % 2 → j < f .width → getD (rowBy k) j 0 ≡ observed f a planes i j
-  column k j p h =
-      row-entry (f .width) i (planes (colourAt (f .layout) (a + i) k)) j h
-      ∙ ap (λ c. getD (planes c) (i * f .width + j) 0) (parity-colour (f .layout) (a + i) k (a + i) j refl (let q : k % 2 ≡ j % 2 = omega arith in q))
+abbrev shall : (l i j : ℕ) → Colour
+shall l i j = cond (isOdd (j % 2 + startsGreen l i)) Green (partner l i)
 
-  own : (j : ℕ) → j < f .width → alternating (rowBy 0) (rowBy 1) j ≡ observed f a planes i j
-  own j h =
-      elim (decLe (j % 2) 0) [
-        | yes t ↦ rw (ne-eqb (j % 2) 1 (omega arith)) (column 0 j (let s : j % 2 ≡ 0 % 2 = omega arith in s) h)
-        | no t ↦ rw (eq-eqb (j % 2) 1 (omega arith)) (column 1 j (let s : j % 2 ≡ 1 % 2 = omega arith in s) h)
-      ]
+-- one test of all layouts
+test : cells colourAt ≡ cells shall
+unfolding colours colourAt partner
+test = refl
 
-  -- what is made of each of them, g, along the row
-  own-columns : (g : ℕ → ℕ) → table (λ j. g (alternating (rowBy 0) (rowBy 1) j)) (f .width) ≡ table (λ j. g (observed f a planes i j)) (f .width)
-  own-columns g = table-same _ _ (f .width) (λ j h. ap g (own j h))
+by-test : (l i j : ℕ) → l ≤ 3 → colourAt l i j ≡ shall l i j
+unfolding colourAt partner
+by-test l i j h = rw (← mod-mod i 2, ← mod-mod j 2) (by-layout colourAt shall test l i j h)
+
+row-colour : (l i j : ℕ) → l ≤ 3 → colourAt l i j ≡ cond (isOdd (j + startsGreen l i)) Green (partner l i)
+row-colour l i j h = by-test l i j h ∙ ap (λ n. cond (eqb n 1) Green (partner l i)) (reduced j (startsGreen l i))
+  where
+    reduced : (j o : ℕ) → (j % 2 + o) % 2 ≡ (j + o) % 2
+    reduced j o = omega arith
+
+partner-plane : (planes : Planes) (p : Colour) → (p ≡ Green → ⊥) → planeOf p (planes Red) (planes Blue) ≡ planes p
+partner-plane planes Red h = refl
+partner-plane planes Green h = absurd (h refl)
+partner-plane planes Blue h = refl
+
+chosen : (g : Colour → ℕ) (t : Bool) (c d : Colour) → cond t (g c) (g d) ≡ g (cond t c d)
+chosen g true c d = refl
+chosen g false c d = refl
+
+-- ---- row i of a strip from row a on
 
 module _ {f : Frame} {a n : ℕ} {planes : Planes} (w : RowsLent f a n planes) (i : ℕ) (h : i < n) where
-  has-row : (k : Colour) → (i + 1) * f .width ≤ length (planes k)
-  has-row k = rw (w .long k, add-one i) (mul-le-mul-right (f .width) h)
+  abbrev W : ℕ
+  W = f .width
 
-  -- every plane has row i, which `own_row` asks for
-  pub row-lent : FrameFits f × (a + i < f .height) × ((k : Colour) → (i + 1) * f .width ≤ length (planes k))
-  row-lent = (w .frame, omega (arith, w .inside), has-row)
+  abbrev p : Colour
+  p = partner (f .layout) (a + i)
 
-  own-length : (k : ℕ) → length (rowBy f a i planes k) ≡ f .width
-  own-length k = row-length (f .width) i (planes (colourAt (f .layout) (a + i) k)) (has-row (colourAt (f .layout) (a + i) k))
+  has-row : (k : Colour) → (i + 1) * W ≤ length (planes k)
+  has-row k = rw (w .long k, add-one i) (mul-le-mul-right W h)
 
-  -- along the rows that the code has taken
-  pub along-row : (g : ℕ → ℕ) {even odd : List ℕ} → even ≡ rowBy f a i planes 0 → odd ≡ rowBy f a i planes 1
-      → (length odd ≡ length even) × (length even ≡ f .width) × (table (λ j. g (alternating even odd j)) (length even) ≡ table (λ j. g (observed f a planes i j)) (f .width))
-  along-row g e o = rw (e, o) (own-length 1 ∙ sym (own-length 0), own-length 0, rw (own-length 0) (own-columns f a i planes g))
+  -- the planes have it, which `partner_row` asks for
+  pub row-lent : FrameFits f × (a + i < f .height) × ((i + 1) * W ≤ length (planes Red)) × ((i + 1) * W ≤ length (planes Blue))
+  row-lent = (w .frame, omega (arith, w .inside), has-row Red, has-row Blue)
+
+  -- where it ends is a number that fits
+  pub row-ends : (i * W + W ≤ n * W) × (n * W ≤ 4096 * 4096)
+  row-ends = let few : n ≤ 4096 = omega (arith, w .inside, w .frame .low) in (part-within W h, mul-le-mul few (w .frame .narrow))
+
+  other-is : planeOf p (planes Red) (planes Blue) ≡ planes p
+  other-is = partner-plane planes p (partner-shares (f .layout) (a + i) (w .frame .known) .0)
+
+  own : (j : ℕ) → j < W → observedIn (startsGreen (f .layout) (a + i)) (rowOf W i (planes Green)) (rowOf W i (planes p)) j ≡ observed f a planes i j
+  own j k =
+      let g : Colour → ℕ = λ c. getD (planes c) (i * W + j) 0 in
+      rw (row-entry W i (planes Green) j k, row-entry W i (planes p) j k)
+      (chosen g (isOdd (j + startsGreen (f .layout) (a + i))) Green p ∙ sym (ap g (row-colour (f .layout) (a + i) j (w .frame .known))))
+
+  -- along the rows that the code has taken, with g for what it makes of each sample
+  pub along-row : (g : ℕ → ℕ) {odd : ℕ} {green other : List ℕ} → odd ≡ startsGreen (f .layout) (a + i) → green ≡ rowOf W i (planes Green) → other ≡ rowOf W i (planeOf p (planes Red) (planes Blue))
+      → (odd < 2) × (length green ≡ W) × (length other ≡ length green) × (table (λ j. g (observedIn odd green other j)) (length green) ≡ table (λ j. g (observed f a planes i j)) W)
+  along-row g {odd} {green} {other} o e r =
+      let l : length green ≡ W = ap length e ∙ row-length W i (planes Green) (has-row Green) in
+      let q : other ≡ rowOf W i (planes p) = r ∙ ap (rowOf W i) other-is in (
+        omega (arith, o, starts-below (f .layout) (a + i)),
+        l,
+        ap length q ∙ row-length W i (planes p) (has-row p) ∙ sym l,
+        rw (l, o, e, q) (table-same _ _ W (λ j k. ap g (own j k))),
+      )

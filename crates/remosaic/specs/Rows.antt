@@ -16,6 +16,6 @@ pub record RowsLent (f : Frame) (a n : ℕ) (planes : Planes) : Type 0 where
   pub inside : a + n ≤ f .height
   pub long : (k : Colour) → length (planes k) ≡ n * f .width
 
--- column j of a row: at an even column of the one plane's row, at an odd one of the other's
-abbrev pub alternating : (even odd : List ℕ) (j : ℕ) → ℕ
-alternating even odd j = cond (isOdd j) (getD odd j 0) (getD even j 0)
+-- column j of a row, from the row in the green plane and in that of the colour that shares it: green is at the columns j where j + odd is odd
+abbrev pub observedIn : (odd : ℕ) (green other : List ℕ) (j : ℕ) → ℕ
+observedIn odd green other j = cond (isOdd (j + odd)) (getD green j 0) (getD other j 0)

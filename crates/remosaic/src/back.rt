@@ -1,23 +1,24 @@
 ghost use mathlib.Core.Path.{_≡_};
-ghost use Prim.Native.Nat.{_*_, _/_};
+ghost use Prim.Native.Nat.{_*_, _/_, _≤_, _<_};
 ghost use lib.ListN.{length};
 ghost use Rattle.lists.specs.Table.{table};
 ghost use Rattle.bayer.specs.Planes.{threePlanes};
 ghost use Rattle.remosaic.specs.MosaicBack.{mosaicRows, MosaicPromise};
-ghost use Rattle.remosaic.specs.Rows.{RowsLent, alternating};
+ghost use Rattle.remosaic.specs.Rows.{RowsLent, observedIn};
 use crate::check::mosaic_back_check;
-use crate::planes::own_row;
 use crate::planes::own_sample;
+use crate::planes::partner_row;
 use bayer::frame::Frame;
+use bayer::parity::starts_green;
 
-// A row of readings, from the row in the planes that have its even and its odd columns.
-fn row_back(even: &[u16], odd: &[u16], out: &mut [u16])
-    requires { ⌜ (length (now odd) ≡ length (now even)) × (length (now out) ≡ length (now even)) ⌝ }
-    ensures { λ _. ⌜ now (out .exit) ≡ table (λ j. alternating (now (even .entry)) (now (odd .entry)) j / 16) (length (now (even .entry))) ⌝ }
+// A row of readings, from the row in the planes of its two colours.
+fn row_back(green: &[u16], other: &[u16], odd: usize, out: &mut [u16])
+    requires { ⌜ (odd < 2) × (length (now green) ≤ 4096) × (length (now other) ≡ length (now green)) × (length (now out) ≡ length (now green)) ⌝ }
+    ensures { λ _. ⌜ now (out .exit) ≡ table (λ j. observedIn odd (now (green .entry)) (now (other .entry)) j / 16) (length (now (green .entry))) ⌝ }
 {
     let mut j = 0;
     while j < out.len() {
-        out[j] = own_sample(j, even[j], odd[j]) / 16;
+        out[j] = own_sample(odd, j, green[j], other[j]) / 16;
         j += 1;
     }
 }
@@ -38,11 +39,11 @@ fn rows_back<'a>(
     let w = frame.width;
     let mut i = 0;
     while i < n {
-        let even = own_row(frame, a, i, 0, red, green, blue);
-        let odd = own_row(frame, a, i, 1, red, green, blue);
+        let other = partner_row(frame, a, i, red, blue);
+        let odd = starts_green(frame.layout, a + i);
         let at = i * w;
         let end = at + w;
-        row_back(even, odd, &mut mosaic[at..end]);
+        row_back(&green[at..end], other, odd, &mut mosaic[at..end]);
         i += 1;
     }
 }

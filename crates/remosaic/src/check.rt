@@ -1,6 +1,6 @@
 ghost use mathlib.Core.Path.{_≡_};
 ghost use mathlib.Core.List.{_++_};
-ghost use Prim.Native.Nat.{_*_};
+ghost use Prim.Native.Nat.{_*_, _≤_, _<_};
 ghost use lib.ListN.{length};
 ghost use Rattle.lists.specs.Any.{any};
 ghost use Rattle.lists.specs.Table.{table};
@@ -8,12 +8,13 @@ ghost use Rattle.bayer.specs.Condition.{frameCases, rowsCases};
 ghost use Rattle.bayer.specs.Planes.{threePlanes};
 ghost use Rattle.bayer.specs.Refusal.{firstOf};
 ghost use Rattle.remosaic.specs.MosaicBack.{observedRows, lengthCases, notOfCamera, cameraCases, mosaicNumber};
-ghost use Rattle.remosaic.specs.Rows.{RowsLent, alternating};
-use crate::planes::own_row;
+ghost use Rattle.remosaic.specs.Rows.{RowsLent, observedIn};
 use crate::planes::own_sample;
+use crate::planes::partner_row;
 use bayer::check::planes_misfit;
 use bayer::check::rows_check;
 use bayer::frame::Frame;
+use bayer::parity::starts_green;
 use bayer::refusal::NOT_CAMERA_PLANES;
 use bayer::refusal::WRONG_PLANE_LENGTH;
 
@@ -27,16 +28,16 @@ fn not_of_camera(sample: u16) -> bool
     65520 < sample
 }
 
-// Whether an observed sample of a row is such a one. `even` and `odd` are the row in the planes that have its even and its odd columns. The loop goes to
-// the end of the row, so that the compiler handles several columns at a time.
-fn row_not_of_camera(even: &[u16], odd: &[u16]) -> bool
-    requires { ⌜ length (now odd) ≡ length (now even) ⌝ }
-    ensures { λ r. ⌜ r ≡ any notOfCamera (table (alternating (now (even .entry)) (now (odd .entry))) (length (now (even .entry)))) ⌝ }
+// Whether an observed sample of a row is such a one, from the row in the planes of its two colours. The loop goes to the end of the row, so that the
+// compiler handles several columns at a time.
+fn row_not_of_camera(green: &[u16], other: &[u16], odd: usize) -> bool
+    requires { ⌜ (odd < 2) × (length (now green) ≤ 4096) × (length (now other) ≡ length (now green)) ⌝ }
+    ensures { λ r. ⌜ r ≡ any notOfCamera (table (observedIn odd (now (green .entry)) (now (other .entry))) (length (now (green .entry)))) ⌝ }
 {
     let mut found = false;
     let mut j = 0;
-    while j < even.len() {
-        found = found | not_of_camera(own_sample(j, even[j], odd[j]));
+    while j < green.len() {
+        found = found | not_of_camera(own_sample(odd, j, green[j], other[j]));
         j += 1;
     }
     found
@@ -54,11 +55,14 @@ fn rows_not_of_camera<'a>(
     requires { ⌜ RowsLent frame a n (threePlanes (now red) (now green) (now blue)) ⌝ }
     ensures { λ r. ⌜ r ≡ any notOfCamera (observedRows frame a n (threePlanes (now (red .entry)) (now (green .entry)) (now (blue .entry)))) ⌝ }
 {
+    let w = frame.width;
     let mut i = 0;
     while i < n {
-        let even = own_row(frame, a, i, 0, red, green, blue);
-        let odd = own_row(frame, a, i, 1, red, green, blue);
-        if row_not_of_camera(even, odd) {
+        let other = partner_row(frame, a, i, red, blue);
+        let odd = starts_green(frame.layout, a + i);
+        let at = i * w;
+        let end = at + w;
+        if row_not_of_camera(&green[at..end], other, odd) {
             return true;
         }
         i += 1;

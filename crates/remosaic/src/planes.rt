@@ -3,48 +3,44 @@ ghost use mathlib.Core.Bool.{cond};
 ghost use Prim.Native.Nat.{_+_, _*_, _≤_, _<_};
 ghost use lib.ListN.{length};
 ghost use Rattle.lists.specs.Part.{rowOf};
-ghost use Rattle.bayer.specs.declared.colour.Colour.{Colour};
-ghost use Rattle.bayer.specs.Colour.{colourAt};
+ghost use Rattle.bayer.specs.Colour.{partner};
 ghost use Rattle.bayer.specs.Condition.{FrameFits};
 ghost use Rattle.bayer.specs.Parity.{isOdd};
-ghost use Rattle.bayer.specs.Planes.{threePlanes};
+ghost use Rattle.bayer.specs.Planes.{planeOf};
 use bayer::colour::Colour;
-use bayer::colour::colour_at;
+use bayer::colour::partner;
 use bayer::frame::Frame;
 
-// The plane of a colour.
-fn plane_of<'a>(c: Colour, red: &'a [u16], green: &'a [u16], blue: &'a [u16]) -> &'a [u16]
-    ensures { λ r. ⌜ now r ≡ threePlanes (now (red .entry)) (now (green .entry)) (now (blue .entry)) c ⌝ }
-{
-    match c {
-        Colour::Red => red,
-        Colour::Green => green,
-        Colour::Blue => blue,
-    }
-}
-
-// Row i of a strip from row a on, in the plane that has its colour at column j, and so at every second column from there.
-pub fn own_row<'a>(
+// Row i of a strip from row a on, in the plane of the colour that shares it with green.
+pub fn partner_row<'a>(
     frame: Frame,
     a: usize,
     i: usize,
-    j: usize,
     red: &'a [u16],
-    green: &'a [u16],
     blue: &'a [u16],
 ) -> &'a [u16]
-    requires { ⌜ (FrameFits frame) × (a + i < frame .height) × ((c : Colour) → (i + 1) * frame .width ≤ length (threePlanes (now red) (now green) (now blue) c)) ⌝ }
-    ensures { λ r. ⌜ now r ≡ rowOf (frame .width) i (threePlanes (now (red .entry)) (now (green .entry)) (now (blue .entry)) (colourAt (frame .layout) (a + i) j)) ⌝ }
+    requires { ⌜ (FrameFits frame) × (a + i < frame .height) × ((i + 1) * frame .width ≤ length (now red)) × ((i + 1) * frame .width ≤ length (now blue)) ⌝ }
+    ensures { λ r. ⌜ now r ≡ rowOf (frame .width) i (planeOf (partner (frame .layout) (a + i)) (now (red .entry)) (now (blue .entry))) ⌝ }
 {
-    let plane = plane_of(colour_at(frame.layout, a + i, j), red, green, blue);
     let at = i * frame.width;
     let end = at + frame.width;
-    &plane[at..end]
+    let colour = partner(frame.layout, a + i);
+    match colour {
+        Colour::Red => &red[at..end],
+        Colour::Green => &red[at..end],
+        Colour::Blue => &blue[at..end],
+    }
 }
 
-// The sample of column j: `even` at an even column, `odd` at an odd one. Both are read before, so a loop over columns has no branch.
-pub fn own_sample(j: usize, even: u16, odd: u16) -> u16
-    ensures { λ r. ⌜ r ≡ cond (isOdd j) odd even ⌝ }
+// The sample of column j of a row: green's where j + odd is odd, else the other colour's. Both are read before, so a loop over columns has no branch; and
+// columns are counted in 16 bits, as the samples are: in 64 it would take a quarter as many at a time.
+pub fn own_sample(odd: usize, j: usize, green: u16, other: u16) -> u16
+    requires { ⌜ (odd < 2) × (j < 4096) ⌝ }
+    ensures { λ r. ⌜ r ≡ cond (isOdd (j + odd)) green other ⌝ }
 {
-    if j % 2 == 1 { odd } else { even }
+    if (j as u16 + odd as u16) % 2 == 1 {
+        green
+    } else {
+        other
+    }
 }

@@ -5,15 +5,15 @@ use native.Mathlib.Omega.{arith}
 use borrow.Author.Needs.{needs}
 use lib.ListN.{length}
 use Rattle.lists.proofs.TableLaws.{Filled, table-none, table-turn, table-done}
-use Rattle.remosaic.specs.Rows.{alternating}
+use Rattle.remosaic.specs.Rows.{observedIn}
 use Rattle.remosaic.proofs.back.row_back.Statement.{statement}
 use Rattle.remosaic.proofs.back.row_back.Tie as tie
 
 abbrev Inv-loop : tie.InvT-loop
-Inv-loop even odd out₀ j₀ out j = (j ≤ length out₀) × Filled (λ j. alternating even odd j / 16) j out₀ out
+Inv-loop green other odd out₀ j₀ out j = (j ≤ length out₀) × Filled (λ j. observedIn odd green other j / 16) j out₀ out
 
 abbrev μ-loop : tie.MeasureT-loop
-μ-loop even odd out₀ j₀ out j = length out₀ - j
+μ-loop green other odd out₀ j₀ out j = length out₀ - j
 
 loop-holds : tie.Need-loop-holds Inv-loop μ-loop
 loop-holds c = (omega arith, (table-none _ _, refl))

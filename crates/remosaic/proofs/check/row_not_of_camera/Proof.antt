@@ -9,15 +9,15 @@ use Rattle.lists.specs.Any.{any}
 use Rattle.lists.specs.Table.{table}
 use Rattle.lists.proofs.AnyLaws.{any-table}
 use Rattle.remosaic.specs.MosaicBack.{notOfCamera}
-use Rattle.remosaic.specs.Rows.{alternating}
+use Rattle.remosaic.specs.Rows.{observedIn}
 use Rattle.remosaic.proofs.check.row_not_of_camera.Statement.{statement}
 use Rattle.remosaic.proofs.check.row_not_of_camera.Tie as tie
 
 abbrev Inv-loop : tie.InvT-loop
-Inv-loop even odd found₀ j₀ found j = (j ≤ length even) × (found ≡ any notOfCamera (table (alternating even odd) j))
+Inv-loop green other odd found₀ j₀ found j = (j ≤ length green) × (found ≡ any notOfCamera (table (observedIn odd green other) j))
 
 abbrev μ-loop : tie.MeasureT-loop
-μ-loop even odd found₀ j₀ found j = length even - j
+μ-loop green other odd found₀ j₀ found j = length green - j
 
 loop-holds : tie.Need-loop-holds Inv-loop μ-loop
 unfolding any table
@@ -55,7 +55,7 @@ loop-again c =
 returns : tie.Need-returns Inv-loop μ-loop
 returns c =
     let l = c .before .loop in
-    let e : l .j ≡ length (c .before .before .before .before .args .even .now) = omega arith in
+    let e : l .j ≡ length (c .before .before .before .before .args .green .now) = omega arith in
     rw (← e) (l .inv .1)
 
 pub row-not-of-camera-spec : {M : Type 1} → statement M
