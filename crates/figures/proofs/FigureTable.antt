@@ -8,6 +8,7 @@ use lib.Dec.{T, lit≤}
 use lib.IntN.{ℤ, pos, negsuc, _+ℤ_, _*ℤ_}
 use Rattle.whole.proofs.Pairs.{Pair, anyₚ, natₚ, _+ₚ_, _*ₚ_, eq-by, eq-of}
 use Rattle.lists.specs.Part.{rowOf}
+use Rattle.lists.specs.Table.{table, joined}
 use Rattle.lists.specs.Every.{Every}
 use Rattle.bayer.specs.declared.colour.Colour.the-variants.{Green}
 use Rattle.bayer.specs.Colour.{colours, colourAt}
@@ -66,7 +67,7 @@ greens-4095 = tt
 -- ---- the table
 
 pub figures-hold : Every holds figures
-unfolding colours colourAt mirror rowOf difference fusion fill neighbours otherFrom
+unfolding colours colourAt mirror rowOf table joined difference fusion fill neighbours otherFrom
 figures-hold =
     tt and tt
     and tt
@@ -77,4 +78,7 @@ figures-hold =
     and planes-are frame8 (readings8 4095 0 0) (λ i j. 0) (lit≤ tt) (lit≤ tt) greens-4095 (λ i j. 65520) (λ i j. 0) tt tt
     and tt and tt and tt and tt
     and tt and tt and tt
+    and tt
+    and refl and refl and refl and refl and refl
+    and refl and refl
     and tt

@@ -5,7 +5,7 @@ use lib.Dec.{le→leb, lit≤}
 use lib.ListN.{length, getD}
 use Rattle.whole.specs.Fraction.{natural, Within}
 use Rattle.lists.specs.Part.{rowOf}
-use Rattle.lists.specs.Bound.{anyAbove}
+use Rattle.lists.specs.Any.{any}
 use Rattle.bayer.specs.declared.colour.Colour.{Colour}
 use Rattle.bayer.specs.declared.colour.Colour.the-variants.{Red, Green, Blue}
 use Rattle.bayer.specs.Colour.{colours, colourAt}
@@ -31,7 +31,7 @@ not-50 h = le→leb _ _ (h .low)
 
 -- a strip call over the whole frame accepts it
 pub accepted-50 : stripNumber (asked frame8 0 8 readings50) 64 64 64 ≡ 0
-unfolding firstOf anyAbove stripNumber
+unfolding firstOf any stripNumber
 accepted-50 = refl
 
 -- and if it keeps the contract, it delivers that green

@@ -1,15 +1,18 @@
--- Document 01's bench figures marked M, in its order, and the printed hundredths, as a table of claims about the written rules. proofs/FigureTable.antt has the theorem. Assumes nothing.
-use Prim.Native.Nat.{ℕ, zero, suc}
+-- Document 01's bench figures marked M, in its order, the printed hundredths, and the figures that the requests print, as a table of claims about the written rules. proofs/FigureTable.antt has the theorem. Assumes nothing.
+use Prim.Native.Nat.{ℕ, zero, suc, _*_}
 use mathlib.Core.Path.{_≡_}
 use mathlib.Core.Bool.{Bool, true, false, _&&_}
 use mathlib.Core.List.{List, [], _∷_, _++_}
 use lib.Dec.{T, eqb}
 use lib.IntN.{ℤ, pos, negsuc, _+ℤ_}
+use Rattle.lists.specs.Part.{part}
 use Rattle.bayer.specs.declared.colour.Colour.{Colour}
 use Rattle.bayer.specs.declared.colour.Colour.the-variants.{Red, Green, Blue}
 use Rattle.bayer.specs.declared.frame.Frame.{Frame}
 use Rattle.bayer.specs.Frame.{frame}
 use Rattle.bayer.specs.Mirror.{mirror}
+use Rattle.bayer.specs.Planes.{threePlanes}
+use Rattle.bayer.specs.Refusal.{Refusal, notCameraPlanes, number}
 use Rattle.gbtf.specs.declared.direction.Direction.{Direction}
 use Rattle.gbtf.specs.Difference.{difference}
 use Rattle.gbtf.specs.Direction.{guarded, direction, guardedSum}
@@ -17,6 +20,7 @@ use Rattle.gbtf.specs.Fusion.{smallestSum, share, shares, sharedDifferences, fu
 use Rattle.gbtf.specs.Weights.{scale}
 use Rattle.demosaic.specs.Fill.{fill}
 use Rattle.demosaic.specs.Exact.{printedError}
+use Rattle.remosaic.specs.MosaicBack.{notOfCamera, mosaicRows}
 use Rattle.figures.specs.Rule.{PlanesAre}
 
 pub data Claim : Type 0 where
@@ -33,6 +37,11 @@ pub data Claim : Type 0 where
   mirrorReads : (size : ℕ) (position : ℤ) → ℕ → Claim
   -- the hundredths of a unit that plane k may lie from the exact reconstruction
   printedIs : (k : Colour) → ℕ → Claim
+  numberIs : Refusal → ℕ → Claim
+  -- whether an observed sample is refused
+  refusedIs : (sample : ℕ) → Bool → Claim
+  -- rows a to a + n − 1 of the 8 by 8 frame, layout 0, whose red, green and blue readings are these, from planes that hold R, G and B everywhere
+  mosaicIs : (a n : ℕ) (R G B : ℕ) → (red green blue : ℕ) → Claim
 
 abbrev pub equal : ℤ → ℤ → Bool
 equal (pos m) (pos n) = eqb m n
@@ -65,6 +74,10 @@ holds (fillIs n g sum v) = T (eqb (fill n g sum) v)
 holds (planesOf red green blue R G B) = PlanesAre frame8 (readings8 red green blue) (λ i j. R) (λ i j. G) (λ i j. B)
 holds (mirrorReads size z v) = T (eqb (mirror size z) v)
 holds (printedIs k n) = T (eqb (printedError k) n)
+holds (numberIs r n) = T (eqb (number r) n)
+holds (refusedIs sample b) = notOfCamera sample ≡ b
+holds (mosaicIs a n R G B red green blue) =
+    mosaicRows frame8 a n (threePlanes (repeated (n * 8) (R ∷ [])) (repeated (n * 8) (G ∷ [])) (repeated (n * 8) (B ∷ []))) ≡ part (a * 8) (n * 8) (readings8 red green blue)
 
 abbrev pub figures : List Claim
 figures =
@@ -77,4 +90,7 @@ figures =
     ∷ planesOf 4095 0 0 65520 0 0
     ∷ mirrorReads 8 (negsuc 0) 1 ∷ mirrorReads 8 (negsuc 6) 7 ∷ mirrorReads 8 (pos 8) 6 ∷ mirrorReads 8 (pos 14) 0
     ∷ printedIs Red 151 ∷ printedIs Green 51 ∷ printedIs Blue 151
+    ∷ numberIs notCameraPlanes 9
+    ∷ refusedIs 16 false ∷ refusedIs 17 true ∷ refusedIs 65520 false ∷ refusedIs 65521 true ∷ refusedIs 65536 true
+    ∷ mosaicIs 0 8 6400 3200 1600 400 200 100 ∷ mosaicIs 3 2 65520 0 0 4095 0 0
     ∷ []

@@ -84,10 +84,7 @@ fn lent_check<'a>(
     ensures { λ r. ⌜ r ≡ firstOf (lengthCases (n * frame .width) (length (now (red .entry))) (length (now (green .entry))) (length (now (blue .entry))) mosaic ++ cameraCases frame a n (threePlanes (now (red .entry)) (now (green .entry)) (now (blue .entry)))) ⌝ }
 {
     let size = n * frame.width;
-    if planes_misfit(size, red.len(), green.len(), blue.len()) {
-        return WRONG_PLANE_LENGTH;
-    }
-    if mosaic != size {
+    if planes_misfit(size, red.len(), green.len(), blue.len()) | (mosaic != size) {
         return WRONG_PLANE_LENGTH;
     }
     if rows_not_of_camera(frame, a, n, red, green, blue) {

@@ -1,12 +1,13 @@
 -- `remosaic::check::lent_check` meets its contract, by its tests in their order. Assumes nothing.
-use mathlib.Core.Path.{_≡_, sym, _∙_}
-use mathlib.Core.Bool.{false}
+use Prim.Native.Nat.{_*_, _≤_}
+use mathlib.Core.Path.{_≡_, sym, ap, _∙_}
+use mathlib.Core.Bool.{Bool, false, not, _||_}
 use native.Mathlib.Nat.{mul-le-mul}
 use native.Mathlib.Omega.{arith}
-use Prim.Native.Nat.{_*_, _≤_}
 use borrow.Author.Needs.{needs}
-use borrow.Author.Tests.{eq-eqb, ne-eqb}
+use lib.Dec.{eqb}
 use lib.ListN.{length}
+use Rattle.whole.proofs.Tests.{neither}
 use Rattle.bayer.specs.Condition.{frameCases, rowsCases, planesMisfit}
 use Rattle.bayer.specs.Refusal.{firstOf}
 use Rattle.bayer.proofs.RefusalLaws.{off-append}
@@ -26,28 +27,36 @@ mul-size c =
 planes-misfit-requires : tie.Need-planes-misfit-requires
 planes-misfit-requires c κs = search needs
 
+-- 5, of the planes and of the mosaic
+abbrev start : tie.After-planes-misfit → tie.Start
+start c = c .before .before .before .before .before
+
+abbrev planes : tie.After-planes-misfit → Bool
+planes c = let a = start c .args in planesMisfit (a .n * a .frame .width) (length (a .red .now)) (length (a .green .now)) (length (a .blue .now))
+
+abbrev mosaic : tie.After-planes-misfit → Bool
+mosaic c = let a = start c .args in not (eqb (a .mosaic) (a .n * a .frame .width))
+
+tested : (c : tie.After-planes-misfit) → planes c || mosaic c ≡ c .planes-misfit .result || mosaic c
+tested c = ap (λ b. b || mosaic c) (sym (c .planes-misfit .ensures))
+
 returns : tie.Need-returns
 unfolding firstOf
-returns c = rw (sym (c .before .planes-misfit .ensures) ∙ c .if1 .taken)
+returns c = rw (tested (c .before) ∙ c .if1 .taken)
 
--- the planes have their length
-passed : (c : tie.Else1) → let a = c .before .before .before .before .before .before .args in planesMisfit (a .n * a .frame .width) (length (a .red .now)) (length (a .green .now)) (length (a .blue .now)) ≡ false
-passed c = sym (c .before .planes-misfit .ensures) ∙ c .if1 .left
+passed : (c : tie.Else1) → planes (c .before) || mosaic (c .before) ≡ false
+passed c = tested (c .before) ∙ c .if1 .left
+
+rows-not-of-camera-requires : tie.Need-rows-not-of-camera-requires
+rows-not-of-camera-requires c κs = rows-lent _ _ _ _ (start (c .before) .pre) (neither (planes (c .before)) (mosaic (c .before)) (passed c) .0)
 
 returns-2 : tie.Need-returns-2
 unfolding firstOf
-returns-2 c = rw (passed (c .before), ne-eqb _ _ (c .if2 .taken))
-
-rows-not-of-camera-requires : tie.Need-rows-not-of-camera-requires
-rows-not-of-camera-requires c κs = rows-lent _ _ _ _ (c .before .before .before .before .before .before .before .pre) (passed (c .before))
+returns-2 c = rw (passed (c .before .before), sym (c .before .rows-not-of-camera .ensures) ∙ c .if2 .taken)
 
 returns-3 : tie.Need-returns-3
 unfolding firstOf
-returns-3 c = let e = c .before .before in rw (passed (e .before), eq-eqb _ _ (e .if2 .left), sym (c .before .rows-not-of-camera .ensures) ∙ c .if3 .taken)
-
-returns-4 : tie.Need-returns-4
-unfolding firstOf
-returns-4 c = let e = c .before .before in rw (passed (e .before), eq-eqb _ _ (e .if2 .left), sym (c .before .rows-not-of-camera .ensures) ∙ c .if3 .left)
+returns-3 c = rw (passed (c .before .before), sym (c .before .rows-not-of-camera .ensures) ∙ c .if2 .left)
 
 pub lent-check-spec : {M : Type 1} → statement M
 lent-check-spec =
@@ -56,7 +65,6 @@ lent-check-spec =
     mul-size
     planes-misfit-requires
     returns
-    returns-2
     rows-not-of-camera-requires
-    returns-3
-    returns-4)
+    returns-2
+    returns-3)
