@@ -425,7 +425,16 @@ class Maker:
             lengths = [n * W] * 4
             lengths[k % 4] = g.choice((n * W + 1, n * W - 1, (n - 1) * W, n * W + W, 0))
             assert self.mosaic(W, H, L, a, n, lengths=lengths)[0] == 5
-        self.note('sizes, layouts and rows off, and several faults at once: the first in the order 1 2 3 5 9 counts')
+        self.note('sizes, layouts and rows off, one by one; 3 and 9, 5 and 9 together')
+        true = W, H, L, a, n = LEAST + 1, LEAST + 5, 2, 3, 4
+        for changed, num in [((w, H, L, a, n), 1) for w in (0, LEAST - 1, 4097)] + [((W, h, L, a, n), 1) for h in (0, LEAST - 1, 4097)] + \
+                [((W, H, l, a, n), 2) for l in (4, 255)] + [((W, H, L, b, m), 3) for b, m in ((a, 0), (H - n + 1, n), (2 ** 64 - n, n), (a, 2 ** 64 - a))]:
+            for puts in ([], [(r.colour(L, a, 0), 0, 17)]):
+                assert self.mosaic(*changed, puts, true=true)[0] == num
+        for k in range(4):
+            for d in (1, -1):
+                assert self.mosaic(W, H, L, a, n, [(r.colour(L, a, 0), 0, 17)], [n * W + d * (c == k) for c in range(4)])[0] == 5
+        self.note('several faults at once: the first in the order 1 2 3 5 9 counts')
         for k in range(count):
             W, H, L = self.size(20), self.size(20), g.randrange(4)
             a, n = self.cut(H)

@@ -19,7 +19,7 @@ def read_plane(name):
 
 
 def main(words):
-    if len(words) != 5:
+    if len(words) != 5 or not all(word.isdecimal() for word in words[:3]):
         print(__doc__, file=sys.stderr)
         return 2
     width, height, layout = (int(word) for word in words[:3])

@@ -7,8 +7,9 @@ use native.Mathlib.Omega.{arith}
 use lib.Dec.{eqb}
 use lib.IntN.{natAbs, subℕ}
 use Rattle.whole.proofs.Pairs.{subₚ, abs-by}
+use Rattle.bayer.specs.declared.colour.Colour.{Colour}
 use Rattle.bayer.specs.declared.colour.Colour.the-variants.{Green}
-use Rattle.bayer.specs.Colour.{colours, colourAt, same}
+use Rattle.bayer.specs.Colour.{colours, colourAt, same, partner}
 use Rattle.bayer.specs.Mirror.{mirror}
 use Rattle.bayer.specs.Parity.{isOdd, startsGreen}
 use Rattle.bayer.proofs.MirrorLaws.{Reflected}
@@ -91,3 +92,23 @@ starts-below l v = bit (same (colourAt l v 0) Green)
     bit : (t : Bool) → cond t 1 0 ≤ 1
     bit true = omega arith
     bit false = omega arith
+
+-- ---- the colours of row i, by the parity of the column
+
+abbrev of-row : (l i j : ℕ) → Colour
+of-row l i j = cond (isOdd (j % 2 + startsGreen l i)) Green (partner l i)
+
+-- one test of all layouts
+of-rows : cells colourAt ≡ cells of-row
+unfolding colours colourAt partner
+of-rows = refl
+
+by-row : (l i j : ℕ) → l ≤ 3 → colourAt l i j ≡ of-row l i j
+unfolding colourAt partner
+by-row l i j h = rw (← mod-mod i 2, ← mod-mod j 2) (by-layout colourAt of-row of-rows l i j h)
+
+pub row-colour : (l i j : ℕ) → l ≤ 3 → colourAt l i j ≡ cond (isOdd (j + startsGreen l i)) Green (partner l i)
+row-colour l i j h = by-row l i j h ∙ ap (λ n. cond (eqb n 1) Green (partner l i)) (reduced j (startsGreen l i))
+  where
+    reduced : (j o : ℕ) → (j % 2 + o) % 2 ≡ (j + o) % 2
+    reduced j o = omega arith

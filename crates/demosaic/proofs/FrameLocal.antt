@@ -9,8 +9,7 @@ use lib.ListN.{getD}
 use Rattle.whole.specs.Parts.{up, down}
 use Rattle.whole.proofs.Pairs.{sub-pos}
 use Rattle.lists.specs.Part.{rowOf}
-use Rattle.lists.proofs.TableLaws.{table-same}
-use Rattle.lists.proofs.JoinedLaws.{joined-same}
+use Rattle.lists.proofs.JoinedLaws.{parts-same}
 use Rattle.bayer.specs.declared.colour.Colour.{Colour}
 use Rattle.bayer.specs.declared.frame.Frame.{Frame}
 use Rattle.bayer.specs.Mirror.{mirror}
@@ -89,4 +88,4 @@ module _ (f : Frame) (a n i : ℕ) (hH : 8 ≤ f .height) (hn : a + n ≤ f .hei
 -- and so are its rows
 pub piece-rows : (f : Frame) (a n : ℕ) → 8 ≤ f .height → a + n ≤ f .height → (frame : List ℕ) (k : Colour) → planeRows f (pieceStart a) (pieceOf (f .width) (f .height) a n frame) a n k ≡ planeRows f 0 frame a n k
 unfolding planeRows
-piece-rows f a n hH hn frame k = joined-same _ _ n (λ i h. table-same _ _ (f .width) (λ j g. piece-sample f a n (a + i) hH hn (omega arith) (omega arith) frame k j))
+piece-rows f a n hH hn frame k = parts-same _ _ (f .width) n (λ i j h g. piece-sample f a n (a + i) hH hn (omega arith) (omega arith) frame k j)

@@ -1,6 +1,6 @@
 -- Whether some element passes a test: laws for loops that look at one after the other; and what holds of all if none does. Assumes nothing.
 use Prim.Native.Nat.{ℕ, zero, suc, _+_, _≤_, _<_}
-use mathlib.Core.Path.{_≡_, refl, sym, ap, ap₂, _∙_}
+use mathlib.Core.Path.{_≡_, refl, sym, ap, _∙_}
 use mathlib.Core.Bool.{Bool, true, false, _||_}
 use mathlib.Core.List.{List, [], _∷_, _++_}
 use native.Mathlib.Decide.{decLe}
@@ -18,14 +18,14 @@ use Rattle.lists.specs.Bound.{AllAtMost, anyAbove}
 
 -- ---- from a place on
 
-module _ {A : Type 0} (p : A → Bool) (l : List A) (i : ℕ) (d : A) where
-  pub any-next : i < length l → p (getD l i d) ≡ false → any p (drop i l) ≡ any p (drop (i + 1) l)
+module _ {A : Type 0} (p : A → Bool) (l : List A) (i : ℕ) where
+  pub any-next : (d : A) → i < length l → p (getD l i d) ≡ false → any p (drop i l) ≡ any p (drop (i + 1) l)
   unfolding any
-  any-next h e = rw (add-one i, drop-cons l i d h, e)
+  any-next d h e = rw (add-one i, drop-cons l i d h, e)
 
-  pub any-stop : i < length l → p (getD l i d) ≡ true → any p (drop i l) ≡ true
+  pub any-stop : (d : A) → i < length l → p (getD l i d) ≡ true → any p (drop i l) ≡ true
   unfolding any
-  any-stop h e = rw (drop-cons l i d h, e)
+  any-stop d h e = rw (drop-cons l i d h, e)
 
   pub any-end : length l ≤ i → any p (drop i l) ≡ false
   unfolding any
@@ -45,7 +45,7 @@ or-false : (a : Bool) → a || false ≡ a
 or-false true = refl
 or-false false = refl
 
--- some up to place n, b n, as a loop has it that looks at one after the other, q: none before the first
+-- b n: whether some place before n passes; q i: whether place i does
 module _ (b q : ℕ → Bool) (start : b 0 ≡ false) (next : (n : ℕ) → b (n + 1) ≡ b n || q n) where
   some-passes : (i n : ℕ) → i < n → q i ≡ true → b n ≡ true
   some-passes i zero h e = absurd (not-suc-le-zero h)
@@ -79,31 +79,31 @@ module _ {A : Type 0} (p : A → Bool) where
   unfolding any table
   any-table f n = rw (add-one n) (any-append (table f n) (f n ∷ []) ∙ ap (λ b. any p (table f n) || b) (or-false (p (f n))))
 
-  table-none : (f : ℕ → A) → any p (table f 0) ≡ false
+  any-table-none : (f : ℕ → A) → any p (table f 0) ≡ false
   unfolding any table
-  table-none f = refl
+  any-table-none f = refl
 
   pub any-joined : (f : ℕ → List A) (n : ℕ) → any p (joined f (n + 1)) ≡ any p (joined f n) || any p (f n)
   unfolding joined
   any-joined f n = rw (add-one n) (any-append (joined f n) (f n))
 
-  joined-none : (f : ℕ → List A) → any p (joined f 0) ≡ false
+  any-joined-none : (f : ℕ → List A) → any p (joined f 0) ≡ false
   unfolding any joined
-  joined-none f = refl
+  any-joined-none f = refl
 
   pub joined-stop : (f : ℕ → List A) (i n : ℕ) → i < n → any p (f i) ≡ true → any p (joined f n) ≡ true
-  joined-stop f = some-passes (λ n. any p (joined f n)) (λ i. any p (f i)) (joined-none f) (any-joined f)
+  joined-stop f = some-passes (λ n. any p (joined f n)) (λ i. any p (f i)) (any-joined-none f) (any-joined f)
 
   -- parts of w elements, part i by rule i: none passes, where none of any part does; and the other way round
   pub parts-none : (rule : ℕ → ℕ → A) (w n : ℕ) → ((i j : ℕ) → i < n → j < w → p (rule i j) ≡ false) → any p (joined (λ i. table (rule i) w) n) ≡ false
   parts-none rule w n h =
-      none-pass (λ n. any p (joined (λ i. table (rule i) w) n)) _ (joined-none _) (any-joined _) n
-      (λ i g. none-pass (λ w. any p (table (rule i) w)) _ (table-none _) (any-table _) w (λ j k. h i j g k))
+      none-pass (λ n. any p (joined (λ i. table (rule i) w) n)) _ (any-joined-none _) (any-joined _) n
+      (λ i g. none-pass (λ w. any p (table (rule i) w)) _ (any-table-none _) (any-table _) w (λ j k. h i j g k))
 
   pub none-in-parts : (rule : ℕ → ℕ → A) (w n : ℕ) → any p (joined (λ i. table (rule i) w) n) ≡ false → (i j : ℕ) → i < n → j < w → p (rule i j) ≡ false
   none-in-parts rule w n e i j h k =
-      none-passed (λ w. any p (table (rule i) w)) (λ j. p (rule i j)) (table-none _) (any-table _) w
-      (none-passed (λ n. any p (joined (λ i. table (rule i) w) n)) (λ i. any p (table (rule i) w)) (joined-none _) (any-joined _) n e i h) j k
+      none-passed (λ w. any p (table (rule i) w)) (λ j. p (rule i j)) (any-table-none _) (any-table _) w
+      (none-passed (λ n. any p (joined (λ i. table (rule i) w) n)) (λ i. any p (table (rule i) w)) (any-joined-none _) (any-joined _) n e i h) j k
 
 -- ---- none above m
 

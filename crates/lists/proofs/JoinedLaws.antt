@@ -24,6 +24,10 @@ module _ {A : Type 0} where
   joined-same f g zero h = refl
   joined-same f g (suc n) h = ap₂ (λ (l m : List A). l ++ m) (joined-same f g n (λ i k. h i (omega arith))) (h n (omega arith))
 
+  -- of parts of w entries, part i by rule i
+  pub parts-same : (f g : ℕ → ℕ → A) (w n : ℕ) → ((i j : ℕ) → i < n → j < w → f i j ≡ g i j) → joined (λ i. table (f i) w) n ≡ joined (λ i. table (g i) w) n
+  parts-same f g w n h = joined-same _ _ n (λ i k. table-same (f i) (g i) w (λ j l. h i j k l))
+
   joined-append : (f : ℕ → List A) (m n : ℕ) → joined f (m + n) ≡ joined f m ++ joined (λ k. f (m + k)) n
   unfolding joined
   joined-append f m zero = rw (add-zero, append-nil)

@@ -16,9 +16,12 @@ module _ {A : Type 0} where
   part-take (suc a) k (suc n) [] h = refl
   part-take (suc a) k (suc n) (x ∷ l) h = part-take a k n l (omega arith)
 
-  -- k entries from the a-th on
+  pub length-part : (a k : ℕ) (l : List A) → a + k ≤ length l → length (part a k l) ≡ k
+  length-part a k l h = length-take-le k (drop a l) (rw (length-drop a l) (omega arith))
+
+  -- k entries from the a-th on, as they are handed on
   pub part-length : (a k : ℕ) (l : List A) → a + k ≤ length l → length (take (a + k - a) (drop a l)) ≡ k
-  part-length a k l h = rw (add-sub-cancel-left a k) (length-take-le k (drop a l) (rw (length-drop a l) (omega arith)))
+  part-length a k l h = rw (add-sub-cancel-left a k) (length-part a k l h)
 
   -- a part that has its k entries lies in the list
   pub part-inside : (a k : ℕ) (l : List A) → 0 < k → length (part a k l) ≡ k → a + k ≤ length l
@@ -58,7 +61,7 @@ row-is w j rows {k} e = rw (add-sub-cancel-left (k * w) w, e)
 
 pub row-length : (w i : ℕ) (rows : List ℕ) → (i + 1) * w ≤ length rows → length (rowOf w i rows) ≡ w
 unfolding rowOf
-row-length w i rows h = length-take-le w (drop (i * w) rows) (simp length-drop (omega arith))
+row-length w i rows h = length-part (i * w) w rows (omega arith)
 
 pub row-entry : (w i : ℕ) (rows : List ℕ) (j : ℕ) → j < w → getD (rowOf w i rows) j 0 ≡ getD rows (i * w + j) 0
 unfolding rowOf

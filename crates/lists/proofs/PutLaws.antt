@@ -7,10 +7,11 @@ use native.Mathlib.Omega.{arith}
 use lib.ListN.{length, getD, take, drop, length-append, length-take, length-drop, take-append-drop, List·getD-append}
 use lib.Seq.{getD-append-add, getD-take, getD-drop, length-take-le, take-at, drop-at, drop-drop}
 use Rattle.lists.specs.Part.{part, put}
+use Rattle.lists.proofs.PartLaws.{length-part}
 
 -- by itself
 pub put-same : (a k : ℕ) (l : List ℕ) → a + k ≤ length l → put a (part a k l) l ≡ l
-put-same a k l h = let e : length (part a k l) ≡ k = length-take-le k (drop a l) (simp length-drop (omega arith)) in rw e (rw (← drop-drop k a l, take-append-drop k (drop a l), take-append-drop a l))
+put-same a k l h = rw (length-part a k l h) (rw (← drop-drop k a l, take-append-drop k (drop a l), take-append-drop a l))
 
 pub length-put : (a : ℕ) (new l : List ℕ) → a + length new ≤ length l → length (put a new l) ≡ length l
 length-put a new l h = simp (length-append, length-take, length-drop) (omega arith)

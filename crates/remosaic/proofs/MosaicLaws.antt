@@ -10,11 +10,9 @@ use lib.ListN.{length, getD}
 use Rattle.whole.proofs.Tests.{neither}
 use Rattle.lists.specs.Any.{any}
 use Rattle.lists.specs.Bound.{AllAtMost}
-use Rattle.lists.specs.Table.{table, joined}
 use Rattle.lists.proofs.AnyLaws.{parts-none, none-in-parts}
 use Rattle.lists.proofs.BoundLaws.{all-parts}
-use Rattle.lists.proofs.JoinedLaws.{joined-same, joined-entries}
-use Rattle.lists.proofs.TableLaws.{table-same}
+use Rattle.lists.proofs.JoinedLaws.{parts-same, joined-entries}
 use Rattle.bayer.specs.declared.colour.Colour.{Colour}
 use Rattle.bayer.specs.declared.colour.Colour.the-variants.{Red, Green, Blue}
 use Rattle.bayer.specs.declared.frame.Frame.{Frame}
@@ -22,16 +20,12 @@ use Rattle.bayer.specs.Planes.{Planes}
 use Rattle.bayer.specs.Refusal.{heldAfter}
 use Rattle.remosaic.specs.MosaicBack.{observed, observedRows, notOfCamera, mosaicNumber, mosaicRows, MosaicPromise, ComesBack}
 use Rattle.remosaic.specs.Rows.{RowsLent}
-use Rattle.remosaic.proofs.NumberLaws.{Fits, fits, accepted}
+use Rattle.remosaic.proofs.NumberLaws.{fits, accepted}
 
 -- accepted, a call leaves the mosaic's rows
-pub accepted-rows : {f : Frame} {a n : ℕ} {planes : Planes} {lent after : List ℕ} {answer : ℕ} → MosaicPromise f a n planes lent answer after → answer ≡ 0 → after ≡ mosaicRows f a n planes
+accepted-rows : {f : Frame} {a n : ℕ} {planes : Planes} {lent after : List ℕ} {answer : ℕ} → MosaicPromise f a n planes lent answer after → answer ≡ 0 → after ≡ mosaicRows f a n planes
 unfolding heldAfter
 accepted-rows {f} {a} {n} {planes} {lent} p e = p .mosaic ∙ ap (λ k. heldAfter k (mosaicRows f a n planes) lent) e
-
--- rules that agree on n rows of w columns
-rows-same : (g h : ℕ → ℕ → ℕ) (w n : ℕ) → ((i j : ℕ) → i < n → j < w → g i j ≡ h i j) → joined (λ i. table (g i) w) n ≡ joined (λ i. table (h i) w) n
-rows-same g h w n e = joined-same _ _ n (λ i k. table-same (g i) (h i) w (λ j l. e i j k l))
 
 module _ (f : Frame) (a n : ℕ) where
   -- every reading that a call delivers is at most 4095
@@ -49,8 +43,18 @@ module _ (f : Frame) (a n : ℕ) where
       → (mosaicNumber f a n p mosaic ≡ mosaicNumber f a n q mosaic) × (mosaicRows f a n p ≡ mosaicRows f a n q)
   unfolding mosaicNumber
   observed-decide p q mosaic l h =
-      let s : observedRows f a n p ≡ observedRows f a n q = rows-same (observed f a p) (observed f a q) (f .width) n h in
-      (rw (l Red, l Green, l Blue, s), rows-same _ _ (f .width) n (λ i j g k. ap (λ x. x / 16) (h i j g k)))
+      let s : observedRows f a n p ≡ observedRows f a n q = parts-same (observed f a p) (observed f a q) (f .width) n h in
+      (rw (l Red, l Green, l Blue, s), parts-same _ _ (f .width) n (λ i j g k. ap (λ x. x / 16) (h i j g k)))
+
+  -- so planes that were edited elsewhere give back what they gave before
+  pub edited-back : (p q : Planes) {readings : List ℕ} → ((k : Colour) → length (p k) ≡ length (q k)) → ((i j : ℕ) → i < n → j < f .width → observed f a p i j ≡ observed f a q i j)
+      → ComesBack f a n p readings → ComesBack f a n q readings
+  edited-back p q l h b = record {
+    camera = sym (ap (any notOfCamera) (parts-same (observed f a p) (observed f a q) (f .width) n h)) ∙ b .camera;
+    back = λ {lent} {after} {answer} e c.
+        let d = observed-decide p q (length lent) l h in
+        b .back e (record { number = c .number ∙ sym (d .0); mosaic = c .mosaic ∙ ap (λ x. heldAfter answer x lent) (sym (d .1)) });
+  }
 
   -- planes whose observed samples are 16 times these readings
   module _ (planes : Planes) (readings : List ℕ) (lent : RowsLent f a n planes) (some : 0 < n) (long : length readings ≡ n * f .width)
@@ -63,7 +67,9 @@ module _ (f : Frame) (a n : ℕ) where
     camera = parts-none notOfCamera (observed f a planes) (f .width) n (λ i j h k. rw (sixteen i j h k) (of-camera _ (range i j h k)))
 
     divided : mosaicRows f a n planes ≡ readings
-    divided = rows-same _ _ (f .width) n (λ i j h k. rw (sixteen i j h k) (let e : 16 * getD readings (i * f .width + j) 0 / 16 ≡ getD readings (i * f .width + j) 0 = omega arith in e)) ∙ joined-entries (f .width) n readings long
+    divided =
+        parts-same _ _ (f .width) n (λ i j h k. rw (sixteen i j h k) (let e : 16 * getD readings (i * f .width + j) 0 / 16 ≡ getD readings (i * f .width + j) 0 = omega arith in e))
+        ∙ joined-entries (f .width) n readings long
 
     pub comes-back : ComesBack f a n planes readings
     comes-back = record {

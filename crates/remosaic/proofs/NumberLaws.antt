@@ -1,8 +1,8 @@
 -- What an accepted call was lent, and which call is accepted. Assumes nothing.
 use Prim.Native.Nat.{ℕ, _*_, _<_}
 use mathlib.Core.Path.{_≡_, _∙_}
-use mathlib.Core.Bool.{false, not, _||_}
-use mathlib.Core.List.{List, _++_}
+use mathlib.Core.Bool.{false, not}
+use mathlib.Core.List.{_++_}
 use borrow.Author.Tests.{eq-eqb}
 use lib.Dec.{eqb}
 use lib.ListN.{length}
@@ -13,10 +13,10 @@ use Rattle.bayer.specs.declared.colour.Colour.the-variants.{Red, Green, Blue}
 use Rattle.bayer.specs.declared.frame.Frame.{Frame}
 use Rattle.bayer.specs.Condition.{frameCases, rowsCases, planesMisfit}
 use Rattle.bayer.specs.Planes.{Planes}
-use Rattle.bayer.specs.Refusal.{Case, firstOf}
+use Rattle.bayer.specs.Refusal.{firstOf}
 use Rattle.bayer.proofs.RefusalLaws.{later, off, on, off-append}
 use Rattle.bayer.proofs.ConditionLaws.{frame-fits, frame-passes, rows-fit, rows-pass, same-number, planes-fit, planes-pass}
-use Rattle.remosaic.specs.MosaicBack.{observedRows, lengthCases, notOfCamera, cameraCases, mosaicNumber}
+use Rattle.remosaic.specs.MosaicBack.{observedRows, notOfCamera, lentCases, mosaicNumber}
 use Rattle.remosaic.specs.Rows.{RowsLent}
 
 module _ (f : Frame) (a n : ℕ) (planes : Planes) where
@@ -35,10 +35,6 @@ module _ (f : Frame) (a n : ℕ) (planes : Planes) where
       long Green = p .1
       long Blue = p .2
 
-  -- 5 and 9, the cases of what is lent
-  abbrev lentCases : (mosaic : ℕ) → List Case
-  lentCases mosaic = lengthCases (n * f .width) (length (planes Red)) (length (planes Green)) (length (planes Blue)) mosaic ++ cameraCases f a n planes
-
   pub record Fits (mosaic : ℕ) : Type 0 where
     pub lent : RowsLent f a n planes
     pub room : mosaic ≡ n * f .width
@@ -47,8 +43,8 @@ module _ (f : Frame) (a n : ℕ) (planes : Planes) where
   pub fits : (mosaic : ℕ) → mosaicNumber f a n planes mosaic ≡ 0 → Fits mosaic
   unfolding mosaicNumber
   fits mosaic e =
-      let o = off-append (frameCases f ++ rowsCases f a n) (lentCases mosaic) e in
-      let l = off (lentCases mosaic) (o .1) in
+      let o = off-append (frameCases f ++ rowsCases f a n) (lentCases f a n planes mosaic) e in
+      let l = off (lentCases f a n planes mosaic) (o .1) in
       let m = neither (planesMisfit (n * f .width) (length (planes Red)) (length (planes Green)) (length (planes Blue))) (not (eqb mosaic (n * f .width))) (l .0) in
       record { lent = rows-lent (o .0) (m .0); room = same-number mosaic (n * f .width) (m .1); camera = l .1 .0 }
 
@@ -56,6 +52,6 @@ module _ (f : Frame) (a n : ℕ) (planes : Planes) where
   unfolding mosaicNumber
   accepted mosaic h w =
       let l = w .lent .long in
-      later (frameCases f) (rowsCases f a n ++ lentCases mosaic) (frame-passes f (w .lent .frame))
-      ∙ later (rowsCases f a n) (lentCases mosaic) (rows-pass f a n h (w .lent .inside))
-      ∙ on (lentCases mosaic) (rw (planes-pass (n * f .width) _ _ _ (l Red) (l Green) (l Blue), eq-eqb mosaic (n * f .width) (w .room)), (w .camera, tt))
+      later (frameCases f) (rowsCases f a n ++ lentCases f a n planes mosaic) (frame-passes f (w .lent .frame))
+      ∙ later (rowsCases f a n) (lentCases f a n planes mosaic) (rows-pass f a n h (w .lent .inside))
+      ∙ on (lentCases f a n planes mosaic) (rw (planes-pass (n * f .width) _ _ _ (l Red) (l Green) (l Blue), eq-eqb mosaic (n * f .width) (w .room)), (w .camera, tt))

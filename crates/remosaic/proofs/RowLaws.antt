@@ -1,12 +1,11 @@
 -- Row i of the observed samples, from the row in the green plane and in that of the colour that shares it. Assumes nothing.
-use Prim.Native.Nat.{ℕ, _+_, _*_, _%_, _≤_, _<_}
+use Prim.Native.Nat.{ℕ, _+_, _*_, _≤_, _<_}
 use mathlib.Core.Path.{_≡_, refl, sym, ap, _∙_}
 use mathlib.Core.Bool.{Bool, true, false, cond}
 use mathlib.Core.List.{List}
-use native.Mathlib.Nat.{mod-mod, mul-le-mul, mul-le-mul-right}
+use native.Mathlib.Nat.{mul-le-mul, mul-le-mul-right}
 use native.Mathlib.Numerals.{add-one}
 use native.Mathlib.Omega.{arith}
-use lib.Dec.{eqb}
 use lib.ListN.{length, getD}
 use Rattle.lists.specs.Part.{rowOf}
 use Rattle.lists.specs.Table.{table}
@@ -16,34 +15,14 @@ use Rattle.lists.proofs.PartLaws.{row-length, row-entry}
 use Rattle.bayer.specs.declared.colour.Colour.{Colour}
 use Rattle.bayer.specs.declared.colour.Colour.the-variants.{Red, Green, Blue}
 use Rattle.bayer.specs.declared.frame.Frame.{Frame}
-use Rattle.bayer.specs.Colour.{colours, colourAt, partner}
+use Rattle.bayer.specs.Colour.{partner}
 use Rattle.bayer.specs.Condition.{FrameFits}
 use Rattle.bayer.specs.Parity.{isOdd, startsGreen}
 use Rattle.bayer.specs.Planes.{Planes, planeOf}
-use Rattle.bayer.proofs.ColourLaws.{cells, by-layout, partner-shares}
-use Rattle.bayer.proofs.ParityLaws.{starts-below}
+use Rattle.bayer.proofs.ColourLaws.{partner-shares}
+use Rattle.bayer.proofs.ParityLaws.{starts-below, row-colour}
 use Rattle.remosaic.specs.MosaicBack.{observed}
 use Rattle.remosaic.specs.Rows.{RowsLent, observedIn}
-
--- ---- the colours of a row, by the parity of the column
-
-abbrev shall : (l i j : ℕ) → Colour
-shall l i j = cond (isOdd (j % 2 + startsGreen l i)) Green (partner l i)
-
--- one test of all layouts
-test : cells colourAt ≡ cells shall
-unfolding colours colourAt partner
-test = refl
-
-by-test : (l i j : ℕ) → l ≤ 3 → colourAt l i j ≡ shall l i j
-unfolding colourAt partner
-by-test l i j h = rw (← mod-mod i 2, ← mod-mod j 2) (by-layout colourAt shall test l i j h)
-
-row-colour : (l i j : ℕ) → l ≤ 3 → colourAt l i j ≡ cond (isOdd (j + startsGreen l i)) Green (partner l i)
-row-colour l i j h = by-test l i j h ∙ ap (λ n. cond (eqb n 1) Green (partner l i)) (reduced j (startsGreen l i))
-  where
-    reduced : (j o : ℕ) → (j % 2 + o) % 2 ≡ (j + o) % 2
-    reduced j o = omega arith
 
 partner-plane : (planes : Planes) (p : Colour) → (p ≡ Green → ⊥) → planeOf p (planes Red) (planes Blue) ≡ planes p
 partner-plane planes Red h = refl

@@ -4,11 +4,11 @@ use mathlib.Core.Path.{_≡_, sym, ap, _∙_}
 use mathlib.Core.List.{List}
 use native.Mathlib.Nat.{add-mul, zero-mul, mul-comm, mul-le-mul-right, le-of-eq}
 use native.Mathlib.Omega.{arith}
-use lib.ListN.{length, getD, drop, length-drop}
-use lib.Seq.{length-take-le, take-all}
+use lib.ListN.{length, getD}
+use lib.Seq.{take-all}
 use Rattle.lists.specs.Part.{part}
 use Rattle.lists.proofs.JoinedLaws.{part-within}
-use Rattle.lists.proofs.PartLaws.{getD-part}
+use Rattle.lists.proofs.PartLaws.{length-part, getD-part}
 use Rattle.bayer.specs.declared.colour.Colour.{Colour}
 use Rattle.bayer.specs.declared.colour.Colour.the-variants.{Red, Green, Blue}
 use Rattle.bayer.specs.declared.frame.Frame.{Frame}
@@ -29,7 +29,7 @@ use Rattle.remosaic.proofs.MosaicLaws.{comes-back}
 -- ---- rows a to a + n − 1 of a list of rows, w wide
 
 rows-length : (w a n : ℕ) (l : List ℕ) → (a + n) * w ≤ length l → length (part (a * w) (n * w) l) ≡ n * w
-rows-length w a n l h = length-take-le (n * w) (drop (a * w) l) (simp length-drop (omega (arith, rw (add-mul a n w) at h)))
+rows-length w a n l h = length-part (a * w) (n * w) l (rw (add-mul a n w) at h)
 
 rows-entry : (w a n : ℕ) (l : List ℕ) (i j : ℕ) → i < n → j < w → getD (part (a * w) (n * w) l) (i * w + j) 0 ≡ getD l ((a + i) * w + j) 0
 rows-entry w a n l i j h k =
@@ -73,7 +73,8 @@ module _ (f : Frame) (readings : List ℕ) where
     d = demand-3 f readings l p q lengths called
 
     -- the planes' rows a to a + n − 1, where all of them are covered, give these rows of the frame back. Nothing is asked of readings that no call has read
-    pub rows-back : (a n : ℕ) → 0 < n → ((i : ℕ) → a ≤ i → i < a + n → CoveredBy l i) → (planes : Planes) → ((k : Colour) → planes k ≡ part (a * W) (n * W) (q k)) → ComesBack f a n planes (part (a * W) (n * W) readings)
+    pub rows-back : (a n : ℕ) → 0 < n → ((i : ℕ) → a ≤ i → i < a + n → CoveredBy l i) → (planes : Planes) → ((k : Colour) → planes k ≡ part (a * W) (n * W) (q k))
+        → ComesBack f a n planes (part (a * W) (n * W) readings)
     rows-back a n some covered planes are = read-back a n planes (record { frame = rows a (omega arith) (omega arith) .frame; inside = inside; long = long }) some rows sixteen
       where
         rows : (i : ℕ) → a ≤ i → i < a + n → RowRead f readings i

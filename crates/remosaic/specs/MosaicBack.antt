@@ -22,21 +22,20 @@ observed f a planes i j = getD (planes (colourAt (f .layout) (a + i) j)) (i * f 
 abbrev pub observedRows : Frame → (a n : ℕ) → Planes → List ℕ
 observedRows f a n planes = joined (λ i. table (λ j. observed f a planes i j) (f .width)) n
 
--- 5: the lengths of the three planes, and of the mosaic too
-abbrev pub lengthCases : (size red green blue mosaic : ℕ) → List Case
-lengthCases size red green blue mosaic = (wrongPlaneLength when (planesMisfit size red green blue || not (eqb mosaic size))) ∷ []
-
--- 9: an observed sample is not a multiple of 16, or exceeds 65520
+-- not what a reading gives: no multiple of 16, or above 65520
 abbrev pub notOfCamera : (sample : ℕ) → Bool
 notOfCamera sample = not (eqb (sample % 16) 0) || ltb 65520 sample
 
-abbrev pub cameraCases : Frame → (a n : ℕ) → Planes → List Case
-cameraCases f a n planes = (notCameraPlanes when any notOfCamera (observedRows f a n planes)) ∷ []
+-- 5: the lengths of the three planes, and of the mosaic too; 9: some observed sample
+abbrev pub lentCases : Frame → (a n : ℕ) → Planes → (mosaic : ℕ) → List Case
+lentCases f a n planes mosaic =
+    (wrongPlaneLength when (planesMisfit (n * f .width) (length (planes Red)) (length (planes Green)) (length (planes Blue)) || not (eqb mosaic (n * f .width))))
+    ∷ (notCameraPlanes when any notOfCamera (observedRows f a n planes))
+    ∷ []
 
 -- the number of the refusal, the first that holds: 1, 2; 3; 5; 9. 0: accepted
 unfoldable pub mosaicNumber : Frame → (a n : ℕ) → Planes → (mosaic : ℕ) → ℕ
-mosaicNumber f a n planes mosaic =
-    firstOf (frameCases f ++ (rowsCases f a n ++ (lengthCases (n * f .width) (length (planes Red)) (length (planes Green)) (length (planes Blue)) mosaic ++ cameraCases f a n planes)))
+mosaicNumber f a n planes mosaic = firstOf (frameCases f ++ (rowsCases f a n ++ lentCases f a n planes mosaic))
 
 -- the n rows of readings: each is the sample of its own colour's plane divided by 16
 abbrev pub mosaicRows : Frame → (a n : ℕ) → Planes → List ℕ

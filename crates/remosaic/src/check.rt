@@ -7,7 +7,7 @@ ghost use Rattle.lists.specs.Table.{table};
 ghost use Rattle.bayer.specs.Condition.{frameCases, rowsCases};
 ghost use Rattle.bayer.specs.Planes.{threePlanes};
 ghost use Rattle.bayer.specs.Refusal.{firstOf};
-ghost use Rattle.remosaic.specs.MosaicBack.{observedRows, lengthCases, notOfCamera, cameraCases, mosaicNumber};
+ghost use Rattle.remosaic.specs.MosaicBack.{observedRows, notOfCamera, lentCases, mosaicNumber};
 ghost use Rattle.remosaic.specs.Rows.{RowsLent, observedIn};
 use crate::planes::own_sample;
 use crate::planes::partner_row;
@@ -28,8 +28,8 @@ fn not_of_camera(sample: u16) -> bool
     65520 < sample
 }
 
-// Whether an observed sample of a row is such a one, from the row in the planes of its two colours. The loop goes to the end of the row, so that the
-// compiler handles several columns at a time.
+// Whether no reading gives some observed sample of a row, from the row in the planes of its two colours. The loop goes to the end of the row, so that
+// the compiler handles several columns at a time.
 fn row_not_of_camera(green: &[u16], other: &[u16], odd: usize) -> bool
     requires { ⌜ (odd < 2) × (length (now green) ≤ 4096) × (length (now other) ≡ length (now green)) ⌝ }
     ensures { λ r. ⌜ r ≡ any notOfCamera (table (observedIn odd (now (green .entry)) (now (other .entry))) (length (now (green .entry)))) ⌝ }
@@ -43,7 +43,7 @@ fn row_not_of_camera(green: &[u16], other: &[u16], odd: usize) -> bool
     found
 }
 
-// Refusal 9: whether an observed sample of rows a to a + n - 1 is such a one.
+// Refusal 9: whether no reading gives some observed sample of rows a to a + n - 1.
 fn rows_not_of_camera<'a>(
     frame: Frame,
     a: usize,
@@ -70,7 +70,7 @@ fn rows_not_of_camera<'a>(
     false
 }
 
-// Refusals 5 and 9: of what a call is lent. 9 comes last, as it reads the planes.
+// Refusals 5 and 9: of what a call is lent. 9 comes last: it reads the planes, whose lengths 5 has tested.
 fn lent_check<'a>(
     frame: Frame,
     a: usize,
@@ -81,7 +81,7 @@ fn lent_check<'a>(
     mosaic: usize,
 ) -> u32
     requires { ⌜ firstOf (frameCases frame ++ rowsCases frame a n) ≡ 0 ⌝ }
-    ensures { λ r. ⌜ r ≡ firstOf (lengthCases (n * frame .width) (length (now (red .entry))) (length (now (green .entry))) (length (now (blue .entry))) mosaic ++ cameraCases frame a n (threePlanes (now (red .entry)) (now (green .entry)) (now (blue .entry)))) ⌝ }
+    ensures { λ r. ⌜ r ≡ firstOf (lentCases frame a n (threePlanes (now (red .entry)) (now (green .entry)) (now (blue .entry))) mosaic) ⌝ }
 {
     let size = n * frame.width;
     if planes_misfit(size, red.len(), green.len(), blue.len()) | (mosaic != size) {

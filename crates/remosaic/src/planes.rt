@@ -33,7 +33,7 @@ pub fn partner_row<'a>(
 }
 
 // The sample of column j of a row: green's where j + odd is odd, else the other colour's. Both are read before, so a loop over columns has no branch; and
-// columns are counted in 16 bits, as the samples are: in 64 it would take a quarter as many at a time.
+// columns are counted in 16 bits, as the samples are: in 64 bits the compiler would take a quarter as many columns at a time.
 pub fn own_sample(odd: usize, j: usize, green: u16, other: u16) -> u16
     requires { ⌜ (odd < 2) × (j < 4096) ⌝ }
     ensures { λ r. ⌜ r ≡ cond (isOdd (j + odd)) green other ⌝ }

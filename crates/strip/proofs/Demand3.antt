@@ -5,10 +5,10 @@ use mathlib.Core.Logic.{inl, inr}
 use mathlib.Core.List.{List, [], _∷_, map}
 use Prim.Native.Nat.{ℕ, zero, suc, _+_, _*_, _-_, _≤_, _<_}
 use native.Mathlib.Omega.{arith}
-use lib.ListN.{length, getD, drop, length-drop}
-use lib.Seq.{length-take-le}
+use lib.ListN.{length, getD}
 use Rattle.whole.specs.Fraction.{natural, Within}
 use Rattle.lists.specs.Part.{part, put}
+use Rattle.lists.proofs.PartLaws.{length-part}
 use Rattle.bayer.specs.declared.colour.Colour.{Colour}
 use Rattle.bayer.specs.declared.colour.Colour.the-variants.{Red, Green, Blue}
 use Rattle.bayer.specs.declared.frame.Frame.{Frame}
@@ -57,7 +57,7 @@ module _ (f : Frame) (readings : List ℕ) where
   }
 
   lent-length : (c : StripCall) {p q : Planes} → Called f readings c p q → (k : Colour) → length (lent c p k) ≡ c .size k
-  lent-length c {p} d k = length-take-le (c .size k) (drop (c .from k) (p k)) (simp length-drop (omega (arith, d .inside k)))
+  lent-length c {p} d k = length-part (c .from k) (c .size k) (p k) (d .inside k)
 
   answers : (c : StripCall) {p q : Planes} (d : Called f readings c p q) → d .answer ≡ numberOf c
   answers c d = d .promise .number ∙ rw (lent-length c d Red, lent-length c d Green, lent-length c d Blue)

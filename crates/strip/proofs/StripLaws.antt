@@ -1,4 +1,4 @@
--- What an accepted strip call is: it fits, and its piece has all that its rows are worked out from. Assumes nothing.
+-- What an accepted strip call is: it fits, its piece has all that its rows are worked out from, and what it shows of the frame's rows. Assumes nothing.
 use mathlib.Core.Path.{_≡_, sym, subst, ap}
 use mathlib.Core.List.{List}
 use Prim.Native.Nat.{ℕ, _+_, _*_, _-_, _≤_, _<_, min, max}

@@ -37,7 +37,7 @@ loop-again : tie.Need-loop-again Inv-loop μ-loop
 loop-again c = let l = c .before .before .before .loop in (omega arith, l .inv .1 ∙ any-next _ _ (l .i) 0 (omega arith) (le-ltb _ _ (c .if1 .left)))
 
 returns-2 : tie.Need-returns-2 Inv-loop μ-loop
-returns-2 c = sym (c .before .loop .inv .1 ∙ any-end _ _ (c .before .loop .i) 0 (c .loop-test .left))
+returns-2 c = sym (c .before .loop .inv .1 ∙ any-end _ _ (c .before .loop .i) (c .loop-test .left))
 
 pub any-above-spec : {M : Type 1} → statement M
 any-above-spec =
