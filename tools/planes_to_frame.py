@@ -19,17 +19,19 @@ def read_plane(name):
 
 
 def main(words):
-    if len(words) != 5 or not all(word.isdecimal() for word in words[:3]):
+    try:
+        *numbers, name, frame = words
+        width, height, layout = (int(number) for number in numbers)
+    except ValueError:
         print(__doc__, file=sys.stderr)
         return 2
-    width, height, layout = (int(word) for word in words[:3])
-    planes = [read_plane(words[3] + "." + name) for name in ("red", "green", "blue")]
+    planes = [read_plane(name + "." + colour) for colour in ("red", "green", "blue")]
     try:
         readings = rokzimp.mosaic_back(width, height, layout, 0, height, *planes)
     except rokzimp.Refused as refused:
         print("refused %d" % refused.number)
         return 1
-    with open(words[4], "wb") as out:
+    with open(frame, "wb") as out:
         out.write(HEAD.pack(1, 5 + 2 * len(readings), width, height, layout) + big_endian(readings))
     return 0
 

@@ -493,7 +493,7 @@ class Test(unittest.TestCase):
                 with open(name + "." + end, "wb") as file:
                     file.write(files[end])
             tool = os.path.join(ROOT, "tools", "planes_to_frame.py")
-            run = subprocess.run([sys.executable, tool, *map(str, words), name, out], stdout=subprocess.PIPE)
+            run = subprocess.run([sys.executable, tool, *map(str, words), name, out], stdout=subprocess.PIPE, stderr=subprocess.DEVNULL)
             if not os.path.exists(out):
                 return run.returncode, run.stdout, None
             with open(out, "rb") as file:
@@ -520,6 +520,8 @@ class Test(unittest.TestCase):
             for plane in (struct.pack(">64H", *[1601] * 64), struct.pack(">64H", *[65535] * 64), struct.pack("<64H", *[1600] * 64)):
                 self.assertEqual(self.run_back({**files, end: plane}, 8, 8, 0), (1, b"refused 9\n", None))
         self.assertEqual(self.run_back(files, 8, 8, 0), (0, b"", struct.pack(">BIHHB64H", 1, 133, 8, 8, 0, *[100] * 64)))
+        for words in ((8, "x", 0), (8, 8)):
+            self.assertEqual(self.run_back(files, *words), (2, b"", None))
 
     def test_readme(self):
         """The README's C, Python and picture examples do what it says."""
