@@ -411,7 +411,7 @@ class Maker:
             a, n = self.cut(H)
             t, c = self.place(W, L, a, n)
             good = g.choice((0, 16, 65520, 16 * g.randrange(4096)))
-            bad = g.choice((1, 15, 17, 65519, 65521, 65534, 65535, 16 * g.randrange(1, 4096) + 1, 16 * g.randrange(1, 4096) - 1))
+            bad = g.choice((1, 8, 15, 17, 65519, 65521, 65528, 65535, 16 * g.randrange(1, 4096) + 1, 16 * g.randrange(1, 4096) - 1))
             other = (c + g.randrange(1, 3)) % 3
             for puts, num in (([(c, t, good)], 0), ([(c, t, bad)], 9), ([(other, t, bad)], 0), ([(other, t, 65535), (c, t, bad)], 9)):
                 assert self.mosaic(W, H, L, a, n, puts)[0] == num
