@@ -22,11 +22,11 @@ observed f a planes i j = getD (planes (colourAt (f .layout) (a + i) j)) (i * f 
 abbrev pub observedRows : Frame → (a n : ℕ) → Planes → List ℕ
 observedRows f a n planes = joined (λ i. table (λ j. observed f a planes i j) (f .width)) n
 
--- not what a reading gives: no multiple of 16, or above 65520
+-- "not camera planes", of an observed sample: it is not a multiple of 16, or exceeds 65520
 abbrev pub notOfCamera : (sample : ℕ) → Bool
 notOfCamera sample = not (eqb (sample % 16) 0) || ltb 65520 sample
 
--- 5: the lengths of the three planes, and of the mosaic too; 9: some observed sample
+-- 5, which covers the lent mosaic too; 9, if an observed sample is so
 abbrev pub lentCases : Frame → (a n : ℕ) → Planes → (mosaic : ℕ) → List Case
 lentCases f a n planes mosaic =
     (wrongPlaneLength when (planesMisfit (n * f .width) (length (planes Red)) (length (planes Green)) (length (planes Blue)) || not (eqb mosaic (n * f .width))))
