@@ -63,9 +63,10 @@ module _ {f : Frame} {a n : ℕ} {planes : Planes} (w : RowsLent f a n planes) (
       (chosen g (isOdd (j + startsGreen (f .layout) (a + i))) Green p ∙ sym (ap g (row-colour (f .layout) (a + i) j (w .frame .known))))
 
   -- along the rows that the code has taken, with g for what it makes of each sample
-  pub along-row : (g : ℕ → ℕ) {odd : ℕ} {green other : List ℕ} → odd ≡ startsGreen (f .layout) (a + i) → green ≡ rowOf W i (planes Green) → other ≡ rowOf W i (planeOf p (planes Red) (planes Blue))
+  pub along-row : (g : ℕ → ℕ) {odd v : ℕ} {green other : List ℕ} → odd ≡ startsGreen (f .layout) v → v ≡ a + i → green ≡ rowOf W i (planes Green) → other ≡ rowOf W i (planeOf p (planes Red) (planes Blue))
       → (odd < 2) × (length green ≡ W) × (length other ≡ length green) × (table (λ j. g (observedIn odd green other j)) (length green) ≡ table (λ j. g (observed f a planes i j)) W)
-  along-row g {odd} {green} {other} o e r =
+  along-row g {odd} {v} {green} {other} s z e r =
+      let o : odd ≡ startsGreen (f .layout) (a + i) = s ∙ ap (startsGreen (f .layout)) z in
       let l : length green ≡ W = ap length e ∙ row-length W i (planes Green) (has-row Green) in
       let q : other ≡ rowOf W i (planes p) = r ∙ ap (rowOf W i) other-is in (
         omega (arith, o, starts-below (f .layout) (a + i)),

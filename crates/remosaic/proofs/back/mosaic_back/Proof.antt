@@ -19,10 +19,13 @@ returns c =
     record { number = c .before .mosaic-back-check .ensures; mosaic = sym (refused-holds _ _ _ refused) }
 
 -- where the call is accepted
+zero : (c : tie.Else1) → c .before .mosaic-back-check .result ≡ 0
+zero c = omega (arith, c .if1 .left)
+
 fitting : (c : tie.Else1) →
     let a = c .before .before .before .before .before .before .args in
     Fits (a .frame) (a .a) (a .n) (threePlanes (a .red .now) (a .green .now) (a .blue .now)) (length (a .mosaic .now))
-fitting c = fits _ _ _ _ _ (sym (c .before .mosaic-back-check .ensures) ∙ c .if1 .left)
+fitting c = fits _ _ _ _ _ (sym (c .before .mosaic-back-check .ensures) ∙ zero c)
 
 rows-back-requires : tie.Need-rows-back-requires
 rows-back-requires c κs = let w = fitting (c .before) in (w .lent, w .room)
@@ -35,7 +38,7 @@ unfolding heldAfter
 returns-2 c =
     let r = c .before .before in
     let e = r .before .before in
-    record { number = sym (e .if1 .left) ∙ e .before .mosaic-back-check .ensures; mosaic = r .rows-back .ensures }
+    record { number = sym (zero e) ∙ e .before .mosaic-back-check .ensures; mosaic = r .rows-back .ensures }
 
 pub mosaic-back-spec : {M : Type 1} → statement M
 mosaic-back-spec = tie.close (tie.spec mosaic-back-check-requires returns rows-back-requires same-length returns-2)

@@ -48,7 +48,7 @@ loop-less c = omega arith
 loop-again : tie.Need-loop-again Inv-loop μ-loop
 loop-again c =
     let l = c .before .before .before .before .loop in
-    (omega arith, table-turn _ (l .j) _ (omega arith) (l .inv .1) (ap (λ x. x / 16) (c .own-sample .ensures)))
+    (omega arith, table-turn _ (l .j) _ (omega arith) (l .inv .1) (omega (arith, c .own-sample .ensures)))
 
 same-length : tie.Need-same-length Inv-loop μ-loop
 same-length c = omega arith

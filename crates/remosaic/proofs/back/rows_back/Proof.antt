@@ -97,7 +97,7 @@ row c =
     let k = c .before .before in
     let a = start k .args in
     let i = k .before .loop .i in
-    along-row (start k .pre .0) i (k .loop-test .taken) (λ x. x / 16) (c .starts-green .ensures) (row-is (a .frame .width) i (a .green .now) refl) (c .before .partner-row .ensures)
+    along-row (start k .pre .0) i (k .loop-test .taken) (λ x. x / 16) (c .starts-green .ensures) (omega arith) (row-is (a .frame .width) i (a .green .now) refl) (c .before .partner-row .ensures)
 
 row-back-requires : tie.Need-row-back-requires Inv-loop μ-loop
 row-back-requires c κs =

@@ -76,7 +76,7 @@ row c =
     let k = c .before .before in
     let a = start k .args in
     let i = k .before .loop .i in
-    along-row (start k .pre) i (k .loop-test .taken) (λ x. x) (c .starts-green .ensures) (row-is (a .frame .width) i (a .green .now) refl) (c .before .partner-row .ensures)
+    along-row (start k .pre) i (k .loop-test .taken) (λ x. x) (c .starts-green .ensures) (omega arith) (row-is (a .frame .width) i (a .green .now) refl) (c .before .partner-row .ensures)
 
 row-not-of-camera-requires : tie.Need-row-not-of-camera-requires Inv-loop μ-loop
 row-not-of-camera-requires c κs = let r = row (c .before) in (r .0, omega (arith, r .1, start (c .before .before .before) .pre .frame .narrow), r .2)
