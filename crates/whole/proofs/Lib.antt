@@ -4,5 +4,6 @@ pub mod Pairs
 pub mod Magnitudes
 pub mod FloorLaws
 pub mod Signed
+pub mod Small
 pub mod FractionLaws
 pub mod Distance

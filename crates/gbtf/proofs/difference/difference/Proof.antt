@@ -1,63 +1,66 @@
--- `gbtf::difference::difference` meets its contract: the sums that it subtracts differ by the difference. Assumes nothing.
+-- `gbtf::difference::difference` meets its contract: no step wraps, for any five u16, and the steps come to the difference. Assumes nothing.
+use Prim.Native.Nat.{ℕ, _+_, _≤_}
 use native.Mathlib.Nat.{le-trans, le-of-eq}
 use native.Mathlib.Omega.{arith}
-use mathlib.Core.Bool.{true, false}
+use mathlib.Core.Bool.{Bool, true, false}
 use mathlib.Core.Path.{_≡_, ap}
-use lib.IntN.{natAbs}
+use lib.IntN.{ℤ, natAbs}
 use mir.Syntax.{w32}
-use Rattle.whole.proofs.Pairs.{anyₚ, eq-by}
-use Rattle.whole.proofs.Signed.{read-result}
+use mir.Val.{SFits, ofZ, toZ}
+use Rattle.whole.proofs.Small.{Small, small, returned}
+use Rattle.gbtf.specs.Bounds.{mostDifference}
 use Rattle.gbtf.specs.Difference.{difference}
+use Rattle.gbtf.specs.Machine.{Readings}
 use Rattle.gbtf.proofs.PixelBounds.{differenceₚ, difference-within}
 use Rattle.gbtf.proofs.difference.difference.Statement.{statement}
 use Rattle.gbtf.proofs.difference.difference.Tie as tie
 use borrow.Author.Needs.{needs}
 
-at-green : (c : tie.After-minus) → let a = c .before .before .args in c .minus .result ≡ difference (a .green) (a .c) (a .l) (a .r) (a .p) (a .q)
-unfolding difference
-at-green c = let a = c .before .before .args in rw (c .before .if1 .taken) (eq-by (anyₚ (c .minus .result)) (differenceₚ true (a .c) (a .l) (a .r) (a .p) (a .q)) (omega arith))
+-- both promises, of a result that is the difference by its pair
+meets : (green : Bool) (c l r p q : ℕ) {z : ℤ} → SFits w32 z → (s : Small 2147483647 z) → let d = differenceₚ green c l r p q in s .pair .hi + d .lo ≡ d .hi + s .pair .lo
+    → (toZ w32 (ofZ w32 z) ≡ difference green c l r p q) × (Readings c l r p q → natAbs (toZ w32 (ofZ w32 z)) ≤ mostDifference)
+meets green c l r p q f s e =
+    let d = returned f s (differenceₚ green c l r p q) e in
+    (d, λ h. le-trans (le-of-eq (ap natAbs d)) (difference-within green h))
 
-at-other : (c : tie.After-minus2) → let a = c .before .before .args in c .minus2 .result ≡ difference (a .green) (a .c) (a .l) (a .r) (a .p) (a .q)
-unfolding difference
-at-other c = let a = c .before .before .args in rw (c .before .if1 .left) (eq-by (anyₚ (c .minus2 .result)) (differenceₚ false (a .c) (a .l) (a .r) (a .p) (a .q)) (omega arith))
+sub-less-centre : tie.Need-sub-less-centre
+sub-less-centre c = search small depth 20
 
-add-near : tie.Need-add-near
-add-near c = search needs
-
-mul-near : tie.Need-mul-near
-mul-near c = search needs
-
-mul-own : tie.Need-mul-own
-mul-own c = search needs
-
-add-own : tie.Need-add-own
-add-own c = search needs
-
-add-own-2 : tie.Need-add-own-2
-add-own-2 c = search needs
-
-minus-requires : tie.Need-minus-requires
-minus-requires c κs = search needs
-
-minus-requires-2 : tie.Need-minus-requires-2
-minus-requires-2 c κs = search needs
+sub-result : tie.Need-sub-result
+sub-result c = let f = c .before .fits in search (small, f .c, f .l, f .r, f .p, f .q) depth 20
 
 returns : tie.Need-returns
-returns c = let e = read-result w32 _ (c .minus .ok) (at-green c) in (e, λ h. le-trans (le-of-eq (ap natAbs e)) (difference-within _ h))
+unfolding difference
+returns c =
+    let a = c .before .args in
+    let f = c .before .fits in
+    rw (c .if1 .taken) (meets true (a .c) (a .l) (a .r) (a .p) (a .q) (sub-result c) (search (small, f .c, f .l, f .r, f .p, f .q) depth 20) (omega arith))
 
 returns-2 : tie.Need-returns-2
-returns-2 c = let e = read-result w32 _ (c .minus2 .ok) (at-other c) in (e, λ h. le-trans (le-of-eq (ap natAbs e)) (difference-within _ h))
+unfolding difference
+returns-2 c =
+    let a = c .before .args in
+    let f = c .before .fits in
+    rw (c .if1 .left) (meets false (a .c) (a .l) (a .r) (a .p) (a .q) (sub-less-centre (c .before)) (search (small, f .c, f .l, f .r, f .p, f .q) depth 20) (omega arith))
 
 pub difference-spec : {M : Type 1} → statement M
 difference-spec =
     tie.close
     (tie.spec
-    add-near
-    mul-near
-    mul-own
-    add-own
-    add-own-2
-    minus-requires
-    minus-requires-2
+    (λ c. search needs)
+    (λ c. search needs)
+    (λ c. search small depth 20)
+    (λ c. search small depth 20)
+    (λ c. search needs)
+    (λ c. search small depth 20)
+    (λ c. search needs)
+    (λ c. search small depth 20)
+    (λ c. search needs)
+    (λ c. search small depth 20)
+    (λ c. search small depth 20)
+    (λ c. search needs)
+    (λ c. search small depth 20)
+    sub-less-centre
+    sub-result
     returns
     returns-2)
