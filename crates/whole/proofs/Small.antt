@@ -1,7 +1,8 @@
--- Signed code whose ranges and values `search` finds, however its expressions are written: sums, differences and natural multiples of literals and of values of 16 bits.
+-- Signed code whose ranges and values `search` finds: sums, differences and natural multiples (the literal first) of literals and of values of 16 bits.
+-- The proof does not repeat the code's expressions. For values with other bounds: proofs/Signed.
 --     Small k z                z, as a goal shows it, is an integer within k, given as a pair of naturals
 --     search small depth n     finds it along z, and proves what an operation asks; each operation of the code takes two of the depth
---     returned f s q           the equation at a return: f is what the last operation asked, s is `search small`, q a pair of the wanted integer; what is left is for `omega`
+--     equal s q                z is the integer of the pair q; what is left is for `omega`
 -- Assumes nothing.
 use mathlib.Core.Path.{_≡_, refl, _∙_, ap, ap₂}
 use mathlib.Core.Bool.{true, false}
@@ -13,7 +14,7 @@ use lib.Dec.{ltb}
 use lib.IntN.{ℤ, pos, natAbs, _+ℤ_, _-ℤ_, _*ℤ_}
 use mir.Syntax.{Width, w16}
 use mir.Val.{Fits, SFits, hbits, ofZ, toZ}
-use mir.ValLaws.{toZ-pos, toZ-ofZ}
+use mir.ValLaws.{toZ-pos}
 use Rattle.whole.proofs.Pairs.{Pair, natₚ, _+ₚ_, _-ₚ_, _*ₚ_, eq-by}
 use Rattle.whole.proofs.Magnitudes.{add-within, sub-within, mul-within, fits-within}
 use Rattle.whole.proofs.Signed.{back}
@@ -24,7 +25,7 @@ pub record Small (k : ℕ) (z : ℤ) : Type 0 where
   pub is : z ≡ value
   pub within : natAbs value ≤ k
 
--- ---- along z. The bound is handed down, and halved at a sum, so that `search` knows it at every part; a test of it computes
+-- ---- along z. The bound is handed down, divided at each operation, so that `search` knows it at every part; a test of it computes
 abbrev pub small-literal : (k n : ℕ) → ltb k n ≡ false → Small k (pos n)
 small-literal k n e = record { value = pos n; pair = natₚ n; is = refl; within = ltb-false k n e }
 
@@ -75,11 +76,12 @@ small-read w k z e a =
       within = a .within;
     }
 
--- ---- what an operation asks, and what is returned
+-- ---- what an operation asks, and what a value is
 pub small-fits : (w : Width) (z : ℤ) → Small (2 ^ hbits w - 1) z → SFits w z
 small-fits w z a = rw (a .is) (fits-within (a .value) (a .within) (omega (arith, one-le-pow (hbits w) 2 (omega arith))))
 
-pub ruleset small = (small-literal, small-u16, small-sum, small-difference, small-multiple, small-read, small-fits)
+-- a difference is a sum too, so its law comes before the sum's
+pub ruleset small = (small-literal, small-u16, small-difference, small-sum, small-multiple, small-read, small-fits)
 
-pub returned : {w : Width} {z y : ℤ} {k : ℕ} → SFits w z → (s : Small k z) (q : Pair y) → s .pair .hi + q .lo ≡ q .hi + s .pair .lo → toZ w (ofZ w z) ≡ y
-returned {w} {z} f s q e = toZ-ofZ w z f ∙ s .is ∙ eq-by (s .pair) q e
+pub equal : {k : ℕ} {z y : ℤ} (s : Small k z) (q : Pair y) → s .pair .hi + q .lo ≡ q .hi + s .pair .lo → z ≡ y
+equal s q e = s .is ∙ eq-by (s .pair) q e

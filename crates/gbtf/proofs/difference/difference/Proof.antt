@@ -5,9 +5,7 @@ use native.Mathlib.Omega.{arith}
 use mathlib.Core.Bool.{Bool, true, false}
 use mathlib.Core.Path.{_≡_, ap}
 use lib.IntN.{ℤ, natAbs}
-use mir.Syntax.{w32}
-use mir.Val.{SFits, ofZ, toZ}
-use Rattle.whole.proofs.Small.{Small, small, returned}
+use Rattle.whole.proofs.Small.{Small, small, equal}
 use Rattle.gbtf.specs.Bounds.{mostDifference}
 use Rattle.gbtf.specs.Difference.{difference}
 use Rattle.gbtf.specs.Machine.{Readings}
@@ -17,50 +15,45 @@ use Rattle.gbtf.proofs.difference.difference.Tie as tie
 use borrow.Author.Needs.{needs}
 
 -- both promises, of a result that is the difference by its pair
-meets : (green : Bool) (c l r p q : ℕ) {z : ℤ} → SFits w32 z → (s : Small 2147483647 z) → let d = differenceₚ green c l r p q in s .pair .hi + d .lo ≡ d .hi + s .pair .lo
-    → (toZ w32 (ofZ w32 z) ≡ difference green c l r p q) × (Readings c l r p q → natAbs (toZ w32 (ofZ w32 z)) ≤ mostDifference)
-meets green c l r p q f s e =
-    let d = returned f s (differenceₚ green c l r p q) e in
+meets : (green : Bool) (c l r p q : ℕ) {z : ℤ} (s : Small 2147483647 z) → let d = differenceₚ green c l r p q in s .pair .hi + d .lo ≡ d .hi + s .pair .lo
+    → (z ≡ difference green c l r p q) × (Readings c l r p q → natAbs z ≤ mostDifference)
+meets green c l r p q s e =
+    let d = equal s (differenceₚ green c l r p q) e in
     (d, λ h. le-trans (le-of-eq (ap natAbs d)) (difference-within green h))
-
-sub-less-centre : tie.Need-sub-less-centre
-sub-less-centre c = search small depth 20
-
-sub-result : tie.Need-sub-result
-sub-result c = let f = c .before .fits in search (small, f .c, f .l, f .r, f .p, f .q) depth 20
 
 returns : tie.Need-returns
 unfolding difference
 returns c =
     let a = c .before .args in
     let f = c .before .fits in
-    rw (c .if1 .taken) (meets true (a .c) (a .l) (a .r) (a .p) (a .q) (sub-result c) (search (small, f .c, f .l, f .r, f .p, f .q) depth 20) (omega arith))
+    rw (c .if1 .taken) (meets true (a .c) (a .l) (a .r) (a .p) (a .q) (search (small, f .c, f .l, f .r, f .p, f .q) depth 20) (omega arith))
 
 returns-2 : tie.Need-returns-2
 unfolding difference
 returns-2 c =
     let a = c .before .args in
     let f = c .before .fits in
-    rw (c .if1 .left) (meets false (a .c) (a .l) (a .r) (a .p) (a .q) (sub-less-centre (c .before)) (search (small, f .c, f .l, f .r, f .p, f .q) depth 20) (omega arith))
+    rw (c .if1 .left) (meets false (a .c) (a .l) (a .r) (a .p) (a .q) (search (small, f .c, f .l, f .r, f .p, f .q) depth 20) (omega arith))
 
+-- what each cast and each operation asks is found
 pub difference-spec : {M : Type 1} → statement M
 difference-spec =
     tie.close
     (tie.spec
-    (λ c. search needs)
-    (λ c. search needs)
-    (λ c. search small depth 20)
-    (λ c. search small depth 20)
-    (λ c. search needs)
-    (λ c. search small depth 20)
-    (λ c. search needs)
-    (λ c. search small depth 20)
-    (λ c. search needs)
-    (λ c. search small depth 20)
-    (λ c. search small depth 20)
-    (λ c. search needs)
-    (λ c. search small depth 20)
-    sub-less-centre
-    sub-result
+    (λ c. search (needs, small) depth 20)
+    (λ c. search (needs, small) depth 20)
+    (λ c. search (needs, small) depth 20)
+    (λ c. search (needs, small) depth 20)
+    (λ c. search (needs, small) depth 20)
+    (λ c. search (needs, small) depth 20)
+    (λ c. search (needs, small) depth 20)
+    (λ c. search (needs, small) depth 20)
+    (λ c. search (needs, small) depth 20)
+    (λ c. search (needs, small) depth 20)
+    (λ c. search (needs, small) depth 20)
+    (λ c. search (needs, small) depth 20)
+    (λ c. search (needs, small) depth 20)
+    (λ c. search (needs, small) depth 20)
+    (λ c. search (needs, small) depth 20)
     returns
     returns-2)
