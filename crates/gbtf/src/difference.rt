@@ -5,9 +5,9 @@ ghost use Rattle.gbtf.specs.Bounds.{mostDifference};
 ghost use Rattle.gbtf.specs.Difference.{difference, gradient};
 ghost use Rattle.gbtf.specs.Machine.{Readings};
 
-// The directional difference, in quarter steps: centre c, neighbours l and r, second neighbours p and q.
-// Its steps are source 004's equations 4 and 8, each multiplied by 4, in the order of the text. Equation 4 is printed along a row, for the estimate of red (R) where
-// the centre is green (G). For the estimate of green the two change places; blue is as red; along a column i moves in place of j.
+// The directional difference, in quarter steps. Along row i: centre c at column j, neighbours l and r at j-1 and j+1, second neighbours p and q at j-2 and j+2.
+// Along a column likewise. Its steps are source 004's equations 4 and 8, each multiplied by 4, in the order of the text.
+// Equation 4 is printed for the estimate of red (R) where the centre is green (G). For the estimate of green the two change places; blue is as red.
 pub fn difference(green: bool, c: u16, l: u16, r: u16, p: u16, q: u16) -> i32
     ensures { λ d. ⌜ d ≡ difference green c l r p q ⌝ }
     ensures { λ d. ⌜ (Readings c l r p q → natAbs d ≤ mostDifference) ⌝ }
@@ -16,9 +16,9 @@ pub fn difference(green: bool, c: u16, l: u16, r: u16, p: u16, q: u16) -> i32
     let neighbours = 2 * (l as i32 + r as i32);
     // Equation 4, (2 × G(i, j) - G(i, j-2) - G(i, j+2)) / 4: the second difference of the centre's colour.
     let second_difference = 2 * (c as i32) - p as i32 - q as i32;
-    // Equation 4: their sum, the estimate at the centre of the colour that it lacks.
+    // Equation 4: their sum, the estimate of the colour that the centre lacks.
     let estimate = neighbours + second_difference;
-    // Equation 8: green minus colour. The subtraction is worked out one way round, and its sign turned for the other.
+    // Equation 8: green minus colour, of which one is the estimate and the other the centre. One subtraction serves both cases: at a green centre its sign is turned.
     let estimate_less_centre = estimate - 4 * (c as i32);
     if green {
         // R is interpolated: the centre minus the estimate.

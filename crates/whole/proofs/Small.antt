@@ -1,5 +1,5 @@
--- Signed code whose ranges and values `search` finds: sums, differences and natural multiples (the literal first) of literals and of values of 16 bits.
--- The proof does not repeat the code's expressions. For values with other bounds: proofs/Signed.
+-- Signed code whose ranges and values `search` finds: sums, differences and natural multiples (the literal first) of literals that are not below 0 and of u16 values,
+-- cast to a wider signed type. The proof does not repeat the code's expressions. For values with other bounds: proofs/Signed.
 --     Small k z                z, as a goal shows it, is an integer within k, given as a pair of naturals
 --     search small depth n     finds it along z, and proves what an operation asks; each operation of the code takes two of the depth
 --     equal s q                z is the integer of the pair q; what is left is for `omega`
@@ -25,7 +25,7 @@ pub record Small (k : ℕ) (z : ℤ) : Type 0 where
   pub is : z ≡ value
   pub within : natAbs value ≤ k
 
--- ---- along z. The bound is handed down, divided at each operation, so that `search` knows it at every part; a test of it computes
+-- ---- along z. The bound is handed down and divided at each operation, so `search` knows it at every part, and the tests of it compute
 abbrev pub small-literal : (k n : ℕ) → ltb k n ≡ false → Small k (pos n)
 small-literal k n e = record { value = pos n; pair = natₚ n; is = refl; within = ltb-false k n e }
 

@@ -1,4 +1,4 @@
--- `gbtf::difference::difference` meets its contract: no step wraps, for any five u16, and the steps come to the difference. Assumes nothing.
+-- `gbtf::difference::difference` meets its contract: no step wraps, for any five u16, and the steps come to the difference, which is within 16380 for readings. Assumes nothing.
 use Prim.Native.Nat.{ℕ, _+_, _≤_}
 use native.Mathlib.Nat.{le-trans, le-of-eq}
 use native.Mathlib.Omega.{arith}
@@ -14,7 +14,7 @@ use Rattle.gbtf.proofs.difference.difference.Statement.{statement}
 use Rattle.gbtf.proofs.difference.difference.Tie as tie
 use borrow.Author.Needs.{needs}
 
--- both promises, of a result that is the difference by its pair
+-- both promises, of a result that is the difference by its pair. 2147483647 is the most that an i32 holds
 meets : (green : Bool) (c l r p q : ℕ) {z : ℤ} (s : Small 2147483647 z) → let d = differenceₚ green c l r p q in s .pair .hi + d .lo ≡ d .hi + s .pair .lo
     → (z ≡ difference green c l r p q) × (Readings c l r p q → natAbs z ≤ mostDifference)
 meets green c l r p q s e =
