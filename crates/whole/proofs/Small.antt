@@ -1,7 +1,8 @@
 -- Signed code whose ranges and values `search` finds: sums, differences and natural multiples (the literal first) of literals that are not below 0 and of u16 values,
 -- cast to a wider signed type. The proof does not repeat the code's expressions. For values with other bounds: proofs/Signed.
 --     Small k z                z, as a goal shows it, is an integer within k, given as a pair of naturals
---     search small depth n     finds it along z, and proves what an operation asks; each operation of the code takes two of the depth
+--     search small depth n     finds it along z, and proves what an operation asks; each operation of the code takes two of the depth.
+--                              Ten operations in one value are found; at eleven `search` broke off, at its bound of steps
 --     equal s q                z is the integer of the pair q; what is left is for `omega`
 -- Assumes nothing.
 use mathlib.Core.Path.{_≡_, refl, _∙_, ap, ap₂}
@@ -38,24 +39,15 @@ small-u16 w k n f e h =
       within = omega (arith, ltb-true 65534 k e);
     }
 
-module _ (k : ℕ) (x y : ℤ) (a : Small (k / 2) x) (b : Small (k / 2) y) where
-  abbrev pub small-sum : Small k (x +ℤ y)
-  small-sum =
-      record {
-        value = a .value +ℤ b .value;
-        pair = a .pair +ₚ b .pair;
-        is = ap₂ (λ u v. u +ℤ v) (a .is) (b .is);
-        within = le-trans (add-within (a .value) (b .value) (a .within) (b .within)) (omega arith);
-      }
+-- a sum or a difference of two that are within half the bound
+abbrev of-halves : (k : ℕ) (o : ℤ → ℤ → ℤ) {x y : ℤ} (a : Small (k / 2) x) (b : Small (k / 2) y) → let v = o (a .value) (b .value) in Pair v → natAbs v ≤ k / 2 + k / 2 → Small k (o x y)
+of-halves k o a b p h = record { value = o (a .value) (b .value); pair = p; is = ap₂ o (a .is) (b .is); within = le-trans h (omega arith) }
 
-  abbrev pub small-difference : Small k (x -ℤ y)
-  small-difference =
-      record {
-        value = a .value -ℤ b .value;
-        pair = a .pair -ₚ b .pair;
-        is = ap₂ (λ u v. u -ℤ v) (a .is) (b .is);
-        within = le-trans (sub-within (a .value) (b .value) (a .within) (b .within)) (omega arith);
-      }
+abbrev pub small-sum : (k : ℕ) (x y : ℤ) → Small (k / 2) x → Small (k / 2) y → Small k (x +ℤ y)
+small-sum k x y a b = of-halves k _+ℤ_ a b (a .pair +ₚ b .pair) (add-within (a .value) (b .value) (a .within) (b .within))
+
+abbrev pub small-difference : (k : ℕ) (x y : ℤ) → Small (k / 2) x → Small (k / 2) y → Small k (x -ℤ y)
+small-difference k x y a b = of-halves k _-ℤ_ a b (a .pair -ₚ b .pair) (sub-within (a .value) (b .value) (a .within) (b .within))
 
 abbrev pub small-multiple : (k n : ℕ) (y : ℤ) → Small (k / n) y → Small k (pos n *ℤ y)
 small-multiple k n y b =
