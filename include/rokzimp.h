@@ -1,4 +1,5 @@
-/* rokzimp.h - red, green and blue planes from a Bayer mosaic: strip calls, views of the planes, and the mosaic back from them.
+/* rokzimp.h - red, green and blue planes from a Bayer mosaic: strip calls, views of the planes, and the mosaic back from them; and
+ * test frames that anyone can make from a seed.
  *
  * Each function below is proved to return, to answer and to write what is said of it, for every value of its arguments
  * (crates/capi/src/lib.rt has the contracts). What is said of stack, heap and locks was measured and seen in the code, not proved.
@@ -6,7 +7,8 @@
  *
  *   - A pointer and the count after it are one run of that many 16-bit samples, at an even address, which the call may read and, where the pointer
  *     is not to const, write. With a count of 0 the pointer is not used, and must still not be NULL.
- *   - A run that is written (red, green, blue of a strip; the mosaic that is given back) overlaps no other run of the same call.
+ *   - A run that is written (red, green, blue of a strip; the mosaic that is given back; a test frame or its row) overlaps no other
+ *     run of the same call.
  *     Runs that are only read may overlap each other.
  *   - No other thread writes a run of the call while it runs, nor reads one that it writes.
  *
@@ -21,7 +23,7 @@
  * Samples are in sixteenths of a reading, 0 to 65520. The observed sample of a pixel is the one in the plane of its filter's
  * colour. Mosaics and planes are stored row by row, without gaps.
  *
- * A number that a call returns is 0, or one of the refusals. Of several that hold, the one that is tested first is returned.
+ * A number that a call returns is 0, or one of the refusals (but for rokzimp_jump, and where a start, a length or a plane is said). Of several that hold, the one that is tested first is returned.
  * A refused call changes no sample. */
 #ifndef ROKZIMP_H
 #define ROKZIMP_H
@@ -37,9 +39,10 @@ enum {
     ROKZIMP_OK = 0,
     ROKZIMP_OFF_SIZE = 1,       /* "off size": width or height outside 8 to 4096 */
     ROKZIMP_UNKNOWN_LAYOUT = 2, /* "unknown layout": layout above 3 */
-    ROKZIMP_OFF_THE_FRAME = 3,  /* "off the frame": rows is 0, or first_row + rows, not wrapped, is above height */
+    ROKZIMP_OFF_THE_FRAME = 3,  /* "off the frame": rows is 0, or first_row + rows, not wrapped, is above height; test row: row >= height */
     ROKZIMP_SHORT_HALO = 4,     /* "short halo": the piece of the mosaic has not the exact length */
-    ROKZIMP_PLANE_MISFIT = 5,   /* "plane misfit": one of the planes, or the mosaic to be written, is not rows * width long */
+    ROKZIMP_PLANE_MISFIT = 5,   /* "plane misfit": one of the planes, or the mosaic to be written, is not rows * width long; a test frame
+                                   is not width * height long, or its row not width */
     ROKZIMP_OVER_RANGE = 6,     /* "over range": some reading of the piece is above 4095 */
     ROKZIMP_NO_SUCH_ROW = 7,    /* "no such row": a plane is shorter than (row + 1) * width, not wrapped; partner view: or row >= height */
     /* 8 is for files, which no function here reads */
@@ -82,6 +85,21 @@ uint32_t rokzimp_mosaic_back_check(size_t width, size_t height, uint8_t layout, 
                                    const uint16_t *green, size_t green_count,
                                    const uint16_t *blue, size_t blue_count,
                                    size_t mosaic_count);
+
+/* Test frames: two who name the same seed, width and height have the same readings, 0 to 4095. A state is a 32-bit number; the next
+ * one is (1664525 * state + 1013904223) modulo 2^32, and a reading is the new state divided by 2^20, rounded down. Readings run row by
+ * row from the seed, which gives none itself: from seed 0 the first is 966. */
+
+/* The whole frame of a seed. Tests 1, then 5 on the frame, which is width * height long. Returns 0 and every reading is written; or
+ * the refusal, and none is. */
+uint32_t rokzimp_test_frame(uint32_t seed, size_t width, size_t height, uint16_t *frame, size_t frame_count);
+
+/* Row `row` of that frame, made directly, by a jump to where it begins. Tests 1, then 3 on the row, then 5 on `out`, which is width
+ * long. Returns 0 and every reading of the row is written; or the refusal, and none is. */
+uint32_t rokzimp_test_row(uint32_t seed, size_t width, size_t height, size_t row, uint16_t *out, size_t out_count);
+
+/* The state after so many steps, any 64-bit number of them, in 64 doublings at most. */
+uint32_t rokzimp_jump(uint32_t state, uint64_t steps);
 
 /* A row view: row `row` of a plane, as the part of it that starts at sample rokzimp_row_view_start and is
  * rokzimp_row_view_length long. The check returns the number: it tests 1 (on the width), then 7. A refused view starts at 0 and

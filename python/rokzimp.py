@@ -1,4 +1,5 @@
-"""Red, green and blue planes from a Bayer mosaic, and the mosaic back from them: the library's calls for Python.
+"""Red, green and blue planes from a Bayer mosaic, the mosaic back from them, and test frames from a seed: the library's calls for
+Python.
 
 Needs CPython and target/lib/librokzimp.so, which tools/build_library.sh builds; ROKZIMP_LIBRARY may name it elsewhere.
 
@@ -21,9 +22,9 @@ import threading
 WORDS = {
     1: ("off size", "width or height outside 8 to 4096"),
     2: ("unknown layout", "layout above 3"),
-    3: ("off the frame", "no rows, or rows past the frame"),
+    3: ("off the frame", "no rows, or a row past the frame"),
     4: ("short halo", "the piece of the mosaic has not the exact length"),
-    5: ("plane misfit", "one of the planes, or the mosaic to be written, is not rows * width long"),
+    5: ("plane misfit", "one of the planes, or the mosaic to be written, is not rows * width long; or a test frame or its row is not as long as its size"),
     6: ("over range", "some reading of the piece is above 4095"),
     7: ("no such row", "a plane lacks the row, or the row is past the frame"),
     8: ("torn file", "the file is not what its first ten bytes say"),
@@ -58,6 +59,9 @@ def _load():
         ("strip", word, frame + [size, size] + samples * 4),
         ("strip_check", word, frame + [size, size] + samples + [size] * 3),
         ("mosaic_back", word, frame + [size, size] + samples * 4),
+        ("test_frame", word, [word, size, size] + samples),
+        ("test_row", word, [word, size, size, size] + samples),
+        ("jump", word, [word, ctypes.c_uint64]),
         ("row_view_check", word, samples + [size, size]),
         ("row_view_start", size, samples + [size, size]),
         ("row_view_length", size, samples + [size, size]),
@@ -80,10 +84,10 @@ def _size(number):
     return number if 0 <= number <= _TOP else _TOP
 
 
-def _exact(number):
+def _exact(number, bits=8 * ctypes.sizeof(ctypes.c_size_t)):
     number = operator.index(number)
-    if not 0 <= number <= _TOP:
-        raise ValueError("%d is no size" % number)
+    if not 0 <= number < 2 ** bits:
+        raise ValueError("%d is no number of %d bits" % (number, bits))
     return number
 
 
@@ -243,6 +247,33 @@ def mosaic_back(width, height, layout, first_row, rows, red, green, blue, mosaic
         _raise(_library.rokzimp_mosaic_back(width, _size(height), _layout(layout), _size(first_row), rows, r.address, r.count,
                                             g.address, g.count, b.address, b.count, m.address, m.count))
     return mosaic
+
+
+def test_frame(seed, width, height, frame=None):
+    """Writes the readings of the test frame of a 32-bit seed into a frame of height * width readings, row by row. One that is not lent
+    is made, as array('H'). Returns the frame."""
+    seed, width, height = _exact(seed, 32), _size(width), _size(height)
+    if frame is None:
+        frame = _made(width, height)
+    with _Lent(frame, True) as f:
+        _raise(_library.rokzimp_test_frame(seed, width, height, f.address, f.count))
+    return frame
+
+
+def test_row(seed, width, height, row, out=None):
+    """Writes row `row` of that frame, width readings, without making the others. One that is not lent is made, as array('H').
+    Returns the row."""
+    seed, width = _exact(seed, 32), _size(width)
+    if out is None:
+        out = _made(width, 1)
+    with _Lent(out, True) as o:
+        _raise(_library.rokzimp_test_row(seed, width, _size(height), _size(row), o.address, o.count))
+    return out
+
+
+def jump(state, steps):
+    """The generator's state after so many steps from a 32-bit state, any 64-bit number of them. A reading is a new state // 2 ** 20."""
+    return _library.rokzimp_jump(_exact(state, 32), _exact(steps, 64))
 
 
 def _samples(lent):

@@ -28,6 +28,11 @@ def read_frame(data):
     return width, height, layout, from_big_endian(data[10:])
 
 
+def frame_file(width, height, layout, readings):
+    """The bytes of a frame file."""
+    return HEAD.pack(1, 5 + 2 * len(readings), width, height, layout) + big_endian(readings)
+
+
 def from_big_endian(data):
     samples = array.array("H", data)
     if sys.byteorder == "little":

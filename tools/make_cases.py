@@ -19,6 +19,12 @@ M W H layout a n  R G B M  width seed round  plane at value  plane at value
     Answer: the number of rokzimp_mosaic_back, that of rokzimp_mosaic_back_check, and of the mosaic sum, checksum, first and last reading.
 B ..
     A strip call as by S with the same numbers, and then the mosaic back, R long, from the planes that it has left. Answer: as by M.
+J state r
+    A jump. Answer: the state of rokzimp_jump.
+W seed W H length held
+    A test frame, in one of this length that is lent. Answer: the number of rokzimp_test_frame, and of the lent frame sum, checksum, first and last reading.
+L seed W H row length held
+    One row of it. Answer: the same of rokzimp_test_row and the lent row.
 V W row length
     A row view; sample t of the plane is t. Answer: number, start, length and checksum of what is shown.
 Q W H layout row red blue
@@ -37,7 +43,8 @@ Reading t of the piece is at row i = t / width + first and column j = t % width,
     noise = kind 0: (x / 2^20) amount / 4096;  kind 1: (x / 2^31) amount;  else: (x / 2^20 % 4) amount, only where x < 2^28
     v = base + down i + across j + oddrow (i % 2) + oddcol (j % 2) + checker ((i + j) % 2) + (step, only where i + j >= from) + noise
 the reading is, by shape, 0: min(v, 4095); 1: v % 4096; else: 4095 - min(v, 4095). Then the readings at the two `at` (if there are such) are set.
-Planes and mosaics hold, before the call, x / 2^16 with the generator from seed + 1 (red), seed + 2 (green), seed + 3 (blue), seed + 4 (mosaic).
+Planes and mosaics hold, before the call, x / 2^16 with the generator from seed + 1 (red), seed + 2 (green), seed + 3 (blue), seed + 4 (mosaic), and test
+frames and rows from held.
 Checksum: from 0, for each sample y in order, h becomes 1664525 h + y + 1 modulo 2^32. 1664525 is odd, so one wrong sample always changes it.
 """
 import os
@@ -159,6 +166,22 @@ def answer_B(v):
     return back(*v[:3], *v[6:8], planes, expand_plane(R, seed + 4))
 
 
+def answer_J(v):
+    return [r.jump(*v)]
+
+
+def answer_W(v):
+    *named, length, held = v
+    lent = expand_plane(length, held)
+    return [r.walk(RULES, *named, lent)] + shown(lent)
+
+
+def answer_L(v):
+    *named, length, held = v
+    lent = expand_plane(length, held)
+    return [r.row_direct(RULES, *named, lent)] + shown(lent)
+
+
 def answer_V(v):
     W, row, length = v
     num = r.row_view_check(RULES, length, W, row)
@@ -184,7 +207,7 @@ def answer_F(v):
     return [r.stop(16 * v[1] + r.fusion(r.shares(ts, RULES.scale), As, T))]
 
 
-ANSWER = {'S': answer_S, 'M': answer_M, 'B': answer_B, 'V': answer_V, 'Q': answer_Q, 'R': answer_R, 'F': answer_F}
+ANSWER = {'S': answer_S, 'M': answer_M, 'B': answer_B, 'J': answer_J, 'W': answer_W, 'L': answer_L, 'V': answer_V, 'Q': answer_Q, 'R': answer_R, 'F': answer_F}
 
 
 # ------------------------------------------------------------ cases
@@ -200,7 +223,7 @@ class Maker:
         ans = ANSWER[kind](v)
         self.lines.append(' '.join(map(str, [kind] + v)))
         self.answers.append(' '.join(map(str, ans)))
-        key = kind + str(ans[0]) if kind in 'SMBVQ' else kind
+        key = kind + str(ans[0]) if kind in 'SMBWLVQ' else kind
         self.count[key] = self.count.get(key, 0) + 1
         return ans
 
@@ -451,6 +474,62 @@ class Maker:
                 if fault == 6: puts = [(c, t, g.choice((17, 65521, 65535)))]
             assert self.mosaic(W, H, L, a, n, puts, lengths, true)[0] != 0
 
+    # -------------------------------------------------------- test frames
+    def jumps(self, count):
+        g = self.g
+        self.note('jumps: few steps, powers of two and next to them, all 64 bits, any number')
+        for state in (0, 1, M32 - 1):
+            for k in range(5):
+                self.add('J', state, k)
+        for b in range(64):
+            for d in (-1, 0, 1):
+                self.add('J', g.randrange(M32), 2 ** b + d)
+        self.add('J', g.randrange(M32), 2 ** 64 - 1)
+        for _ in range(count):
+            self.add('J', g.randrange(M32), g.randrange(2 ** g.randrange(1, 65)))
+
+    def frame(self, seed, W, H, length):
+        return self.add('W', seed, W, H, length, self.g.randrange(M32))
+
+    def row(self, seed, W, H, row, length):
+        return self.add('L', seed, W, H, row, length, self.g.randrange(M32))
+
+    def test_frames(self, count):
+        g = self.g
+        self.note('test frames; from seed 0 the first reading is 966')
+        assert self.frame(0, 8, 8, 64)[3] == 966
+        for W, H in ((LEAST, LEAST), (4096, LEAST), (LEAST, 4096), (4096, 8), (8, 4096), (63, 65)):
+            for seed in (0, M32 - 1, g.randrange(M32)):
+                assert self.frame(seed, W, H, W * H)[0] == 0
+        for _ in range(count):
+            W, H = self.size(), self.size()
+            assert self.frame(g.randrange(M32), W, H, W * H)[0] == 0
+            assert self.frame(g.randrange(M32), W, H, g.choice((W * H + 1, W * H - 1, W * H + W, W * (H - 1), 0)))[0] == 5
+            off = g.choice([0, 1, LEAST - 1, 4097] + BIG)
+            assert self.frame(g.randrange(M32), *g.choice(((off, H), (W, off), (off, off))), g.choice((W * H, 0)))[0] == 1
+
+    def test_rows(self, count):
+        g = self.g
+        self.note('each row of a frame, then the frame; the ends of large ones')
+        for W, H in ((8, 8), (13, 9)):
+            seed = g.randrange(M32)
+            for row in range(H):
+                assert self.row(seed, W, H, row, W)[0] == 0
+            assert self.frame(seed, W, H, W * H)[0] == 0
+        for W, H in ((4096, 4096), (LEAST, 4096), (4095, LEAST)):
+            for row in (0, 1, H // 2, H - 1):
+                assert self.row(g.randrange(M32), W, H, row, W)[0] == 0
+        self.note('3 from row H on, 5, and several faults at once: the first in the order 1 3 5 counts')
+        for _ in range(count):
+            W, H = self.size(), g.choice((self.size(), 4096))
+            inside, outside = g.randrange(H), g.choice([H, H + 1] + BIG)
+            other = g.choice((W + 1, W - 1, 2 * W, 0))
+            off = g.choice([0, 1, LEAST - 1, 4097] + BIG)
+            assert self.row(g.randrange(M32), W, H, inside, W)[0] == 0
+            assert self.row(g.randrange(M32), W, H, outside, g.choice((W, other)))[0] == 3
+            assert self.row(g.randrange(M32), W, H, inside, other)[0] == 5
+            assert self.row(g.randrange(M32), *g.choice(((off, H), (W, off), (off, off))), g.choice((inside, outside)), g.choice((W, other)))[0] == 1
+
     # -------------------------------------------------------- views
     def row_views(self, count):
         g = self.g
@@ -541,6 +620,9 @@ def main():
     m.mosaics(120)
     m.off_camera(60)
     m.mosaics_refused(80)
+    m.jumps(60)
+    m.test_frames(40)
+    m.test_rows(40)
     assert len('\n'.join(m.lines)) < room(), 'stdin is longer than the program reads'
     os.makedirs(where, exist_ok=True)
     for name, lines in (('stdin', m.lines), ('stdout', m.answers)):

@@ -1,7 +1,8 @@
 #!/usr/bin/env python3
-"""planes_cases.py SEED [DIRECTORY]: writes crates/planes_cases/stdin (SEED 1), frame files each behind a two-byte length,
-and crates/planes_cases/stdout, what reference/reference.py's program prints for each. Without a DIRECTORY it also writes
-crates/planes_long/stdin, a file that is a byte too long, and stdout."""
+"""planes_cases.py SEED [DIRECTORY]: writes crates/planes_cases/stdin (SEED 1), inputs of the two small programs, each behind a byte
+that says of which (0: frame files, 1: test frames) and a two-byte length, and crates/planes_cases/stdout, what
+reference/reference.py's program prints for each. Without a DIRECTORY it also writes stdin and stdout of crates/planes_long, a file
+that is a byte too long, of crates/test_planes, seed 0, 8 by 8, layout 0, and of crates/test_planes_long, the same and a tenth byte."""
 import os
 import random
 import sys
@@ -16,7 +17,7 @@ def frame_file(w, h, layout, readings, version=1, length=None):
     return bytes([version]) + length.to_bytes(4, 'big') + body
 
 
-def cases():
+def files():
     rnd = random.Random(int(sys.argv[1]))
 
     def some(n, top=4095):
@@ -68,6 +69,51 @@ def cases():
     yield frame_file(8, 8, 0, [100] * 63 + [4095])
 
 
+def name(seed, w, h, layout):
+    """The nine bytes that name a test frame."""
+    return seed.to_bytes(4, 'big') + w.to_bytes(2, 'big') + h.to_bytes(2, 'big') + bytes([layout])
+
+
+def names():
+    rnd = random.Random('test frames %s' % sys.argv[1])
+
+    def seed():
+        return rnd.randrange(2 ** 32)
+
+    least = RULES.min_size
+    # the README's example; each layout, odd and even sizes, the ends of the seeds, and the largest frames
+    yield name(0, 8, 8, 0)
+    for layout in range(4):
+        yield name(seed(), 8, 8, layout)
+        yield name(seed(), 9, 11, layout)
+        yield name(seed(), least, 4096 // least, layout)
+    for s in (1, 255, 256, 65536, 2 ** 24, 2 ** 31, 2 ** 32 - 1):
+        yield name(s, 10, 9, 1)
+    yield name(seed(), 64, 64, 3)
+    yield name(seed(), 512, 8, 2)
+    yield name(seed(), 63, 65, 0)
+    # 8: not nine bytes
+    good = name(seed(), 8, 8, 0)
+    for n in range(9):
+        yield good[:n]
+    yield good + b'\0'
+    yield good + good
+    # 8 before 1 and 2
+    yield name(0, 0, 0, 9)[:8]
+    yield name(0, 0, 0, 9) + b'\0'
+    # 1, also before 2 and before W x H
+    for w, h in ((0, 8), (8, 0), (least - 1, 8), (8, least - 1), (4097, 8), (8, 4097), (65535, 65535), (1, 4096), (0, 0)):
+        yield name(seed(), w, h, 0)
+        yield name(seed(), w, h, 4)
+    # 2, also before W x H
+    for layout in (4, 9, 255):
+        yield name(seed(), 8, 8, layout)
+        yield name(seed(), 4096, 8, layout)
+    # 8: W x H above 4096
+    for w, h in ((64, 65), (17, 241), (4096, 4096), (4096, 8), (8, 513)):
+        yield name(seed(), w, h, 3)
+
+
 def too_long():
     """The longest frame file and one byte more."""
     rnd = random.Random(int(sys.argv[1]))
@@ -76,18 +122,28 @@ def too_long():
     return data + b'\0'
 
 
-def write(where, stdin, files):
+def write(where, stdin, printed):
     os.makedirs(where, exist_ok=True)
-    with open(os.path.join(where, 'stdin'), 'wb') as out, open(os.path.join(where, 'stdout'), 'w') as printed:
-        out.write(stdin)
-        for data in files:
-            printed.write(reference.program(RULES, data))
+    with open(os.path.join(where, 'stdin'), 'wb') as file:
+        file.write(stdin)
+    with open(os.path.join(where, 'stdout'), 'w') as file:
+        file.write(printed)
 
 
-made = list(cases())
-among = b''.join(len(data).to_bytes(2, 'big') + data for data in made)
-if len(sys.argv) > 2:
-    write(sys.argv[2], among, made)
-else:
-    write(os.path.join(ROOT, 'crates', 'planes_cases'), among, made)
-    write(os.path.join(ROOT, 'crates', 'planes_long'), too_long(), [too_long()])
+def one(crate, program, data):
+    write(os.path.join(ROOT, 'crates', crate), data, program(RULES, data))
+
+
+def main():
+    made = [(0, data) for data in files()] + [(1, data) for data in names()]
+    among = b''.join(bytes([kind]) + len(data).to_bytes(2, 'big') + data for kind, data in made)
+    printed = [(reference.program, reference.generator_program)[kind](RULES, data) for kind, data in made]
+    write(sys.argv[2] if len(sys.argv) > 2 else os.path.join(ROOT, 'crates', 'planes_cases'), among, ''.join(printed))
+    if len(sys.argv) == 2:
+        one('planes_long', reference.program, too_long())
+        one('test_planes', reference.generator_program, name(0, 8, 8, 0))
+        one('test_planes_long', reference.generator_program, name(0, 8, 8, 0) + b'\0')
+    print('%d files, %d of test frames' % tuple(sum(kind == k for kind, _ in made) for k in (0, 1)))
+
+
+main()

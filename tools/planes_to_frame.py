@@ -8,7 +8,7 @@ document 01's format. Only the samples of each pixel's own colour count. A refus
 nothing is written. A file that ends within a sample counts as an empty one, which is a plane misfit."""
 import sys
 
-from frame_to_png import HEAD, big_endian, from_big_endian  # to import it puts python/ on the path too
+from frame_to_png import frame_file, from_big_endian  # to import it puts python/ on the path too
 import rokzimp
 
 
@@ -32,7 +32,7 @@ def main(words):
         print("refused %d" % refused.number)
         return 1
     with open(frame, "wb") as out:
-        out.write(HEAD.pack(1, 5 + 2 * len(readings), width, height, layout) + big_endian(readings))
+        out.write(frame_file(width, height, layout, readings))
     return 0
 
 

@@ -1,7 +1,7 @@
 #!/usr/bin/env python3
-"""Tests of python/rokzimp.py, tools/frame_to_png.py and tools/planes_to_frame.py, and with them of the C library: document 01's
-examples, each refusal, that nothing is copied, that any cutting into strips and any number of threads give the same planes, that
-the mosaic comes back from them, and frames compared with reference/reference.py.
+"""Tests of python/rokzimp.py, tools/frame_to_png.py, tools/planes_to_frame.py and tools/seed_to_frame.py, and with them of the C
+library: document 01's examples, each refusal, that nothing is copied, that any cutting into strips and any number of threads give
+the same planes, that the mosaic comes back from them, test frames, and frames compared with reference/reference.py.
 
     tools/build_library.sh && tools/test_python.py"""
 import array
@@ -22,7 +22,7 @@ from stage import ROOT, RULES
 sys.path.insert(0, os.path.join(ROOT, "python"))
 import reference
 import rokzimp
-from rokzimp import Refused, mosaic_back, partner_view, piece_rows, piece_start, row_view, strip, whole_frame
+from rokzimp import Refused, jump, mosaic_back, partner_view, piece_rows, piece_start, row_view, strip, test_frame, test_row, whole_frame
 
 
 def samples(numbers):
@@ -204,6 +204,8 @@ class Test(unittest.TestCase):
             row_view(lent[0], 1024, 3)
             partner_view(lent[0], lent[2], 1024, 64, 0, 3)
             mosaic_back(1024, 64, 0, 0, 64, *lent, back)
+            test_frame(5, 1024, 64, back)
+            test_row(5, 1024, 64, 63, memoryview(back)[:2048])
             self.assertLess(tracemalloc.get_traced_memory()[1], 20000)
         finally:
             tracemalloc.stop()
@@ -394,6 +396,71 @@ class Test(unittest.TestCase):
             self.assertNotIsInstance(caught.exception, Refused)
         self.assertEqual((lent, mosaic, long), (planes(64, 1600), samples([7] * 64), samples([1600] * 127)))
 
+    # test frames
+
+    def test_test_frames(self):
+        self.assertEqual(test_frame(0, 8, 8)[0], 966)
+        rng = random.Random(14)
+        for width, height in ((8, 8), (9, 13), (30, 8), (8, 4096), (4096, 8)):
+            seed = rng.choice((0, 2 ** 32 - 1, rng.randrange(2 ** 32)))
+            frame = test_frame(seed, width, height)
+            self.assertIsInstance(frame, array.array)
+            wanted, state = [], seed
+            for _ in range(width * height):
+                state = (1664525 * state + 1013904223) % 2 ** 32
+                wanted.append(state // 2 ** 20)
+            self.assertEqual(frame.tolist(), wanted)
+            for row in {0, 1, height // 2, height - 1}:
+                made = test_row(seed, width, height, row)
+                self.assertIsInstance(made, array.array)
+                self.assertEqual(made, frame[row * width:(row + 1) * width])
+            whole_frame(width, height, 0, frame)  # no reading is over range
+        for lent in (bytearray(128), memoryview(bytearray(128)).cast("H", (8, 8)), (ctypes.c_uint16 * 64)()):
+            self.assertIs(test_frame(3, 8, 8, lent), lent)
+            self.assertEqual(bytes(lent), test_frame(3, 8, 8).tobytes())
+        row = bytearray(16)
+        self.assertIs(test_row(3, 8, 8, 7, row), row)
+        self.assertEqual(bytes(row), test_frame(3, 8, 8).tobytes()[-16:])
+
+    def test_test_frames_refused(self):
+        frame, row = samples([7] * 64), samples([7] * 8)
+        for width, height in ((7, 8), (8, 7), (4097, 8), (8, 4097), (0, 0), (-8, 8), (8, 2 ** 64 + 8)):
+            self.refused(1, test_frame, 0, width, height, frame)
+            self.refused(1, test_frame, 0, width, height)
+            self.refused(1, test_row, 0, width, height, 8, row[:7])
+            self.refused(1, test_row, 0, width, height, 0)
+        for length in (0, 8, 63, 65, 128):
+            self.refused(5, test_frame, 0, 8, 8, samples([7] * length))
+        for last in (8, 9, -1, 2 ** 61, 2 ** 64 - 1, 2 ** 64):
+            self.refused(3, test_row, 0, 8, 8, last, row)
+            self.refused(3, test_row, 0, 8, 8, last, row[:7])
+            self.refused(3, test_row, 0, 8, 8, last)
+        for length in (0, 7, 9, 64):
+            self.refused(5, test_row, 0, 8, 8, 7, samples([7] * length))
+        for seed in (-1, 2 ** 32):
+            for call in (lambda: test_frame(seed, 8, 8, frame), lambda: test_row(seed, 8, 8, 0, row), lambda: jump(seed, 1)):
+                with self.assertRaises(ValueError) as caught:
+                    call()
+                self.assertNotIsInstance(caught.exception, Refused)
+        for steps in (-1, 2 ** 64):
+            with self.assertRaises(ValueError):
+                jump(0, steps)
+        with self.assertRaises(BufferError):
+            test_frame(0, 8, 8, bytes(128))
+        with self.assertRaises(TypeError):
+            test_row(0, 8, 8, 0, array.array("h", [7] * 8))
+        self.assertEqual((frame, row), (samples([7] * 64), samples([7] * 8)))
+
+    def test_jumps(self):
+        rng = random.Random(15)
+        for seed in (0, 1, 2 ** 32 - 1, rng.randrange(2 ** 32)):
+            state = seed
+            for steps in range(300):
+                self.assertEqual(jump(seed, steps), state)
+                state = (1664525 * state + 1013904223) % 2 ** 32
+            for steps in [2 ** b + d for b in range(9, 65) for d in (-1, 0, 1) if 2 ** b + d < 2 ** 64] + [rng.randrange(2 ** 64) for _ in range(50)]:
+                self.assertEqual(jump(seed, steps), reference.jump(seed, steps))
+
     # the other implementation
 
     def test_reference_frames(self):
@@ -445,6 +512,25 @@ class Test(unittest.TestCase):
             self.assertEqual((got.tolist(), lent), (wanted, before))
             seen.add(number)
         self.assertEqual(seen, {0, 1, 2, 3, 5, 9})
+
+    def test_reference_test_frames(self):
+        rng, seen = random.Random(16), set()
+        for k in range(600):
+            seed, width, height = rng.randrange(2 ** 32), rng.randrange(6, 16), rng.randrange(6, 16)
+            row = rng.randrange(height + 2)
+            for call, by_rule, named, length in ((test_frame, reference.walk, (seed, width, height), width * height),
+                                                 (test_row, reference.row_direct, (seed, width, height, row), width)):
+                length += rng.choice((0,) * 6 + (1, -1, width))
+                wanted, got = [5] * length, samples([5] * length)
+                number = by_rule(RULES, *named, wanted)
+                try:
+                    self.assertIs(call(*named, got), got)
+                    self.assertEqual(number, 0)
+                except Refused as refused:
+                    self.assertEqual(number, refused.number)
+                self.assertEqual(got.tolist(), wanted)
+                seen.add((call, number))
+        self.assertEqual(seen, {(test_frame, n) for n in (0, 1, 5)} | {(test_row, n) for n in (0, 1, 3, 5)})
 
     # pictures
 
@@ -522,6 +608,29 @@ class Test(unittest.TestCase):
         self.assertEqual(self.run_back(files, 8, 8, 0), (0, b"", struct.pack(">BIHHB64H", 1, 133, 8, 8, 0, *[100] * 64)))
         for words in ((8, "x", 0), (8, 8)):
             self.assertEqual(self.run_back(files, *words), (2, b"", None))
+
+    def run_seed(self, *words):
+        """tools/seed_to_frame.py: its exit status, what it printed, and the frame file, None where there is none."""
+        with tempfile.TemporaryDirectory() as folder:
+            out = os.path.join(folder, "frame")
+            tool = os.path.join(ROOT, "tools", "seed_to_frame.py")
+            run = subprocess.run([sys.executable, tool, *map(str, words), out], stdout=subprocess.PIPE, stderr=subprocess.DEVNULL)
+            if not os.path.exists(out):
+                return run.returncode, run.stdout, None
+            with open(out, "rb") as file:
+                return run.returncode, run.stdout, file.read()
+
+    def test_seed_to_frame(self):
+        for seed, width, height, layout in ((0, 8, 8, 0), (2 ** 32 - 1, 80, 61, 3)):
+            readings = [5] * (width * height)
+            self.assertEqual(reference.walk(RULES, seed, width, height, readings), 0)
+            data = struct.pack(">BIHHB%dH" % len(readings), 1, 5 + 2 * len(readings), width, height, layout, *readings)
+            self.assertEqual(self.run_seed(seed, width, height, layout), (0, b"", data))
+            self.assertEqual(self.run_tool(data)[0], 0)
+        for number, words in ((1, (0, 7, 8, 0)), (1, (0, 8, 70000, 9)), (1, (0, -8, 8, 0)), (2, (0, 8, 8, 4)), (2, (0, 8, 8, -1))):
+            self.assertEqual(self.run_seed(*words), (1, b"refused %d\n" % number, None))
+        for words in ((2 ** 32, 8, 8, 0), (-1, 8, 8, 0), (0, 8, "x", 0), (0, 8, 8), ("", 8, 8, 0)):
+            self.assertEqual(self.run_seed(*words), (2, b"", None))
 
     def test_readme(self):
         """The README's C, Python and picture examples do what it says."""

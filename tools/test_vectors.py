@@ -1,10 +1,10 @@
 #!/usr/bin/env python3
 """The cases of reference/vectors.py at the present stage, through the Python module, and with it through the C library.
 
-    rt check planes && tools/build_library.sh && tools/test_vectors.py SEED [COUNT]      COUNT (200) cases of each kind
+    rt check planes test_planes && tools/build_library.sh && tools/test_vectors.py SEED [COUNT]      COUNT (200) cases of each kind
 
 Compared are the number of each call and every lent sample afterwards; where the call is refused the case has them as they were
-before. The small program's cases (P) are handed to target/bin/planes. Prints how many cases of each kind were tried, how many of them
+before. The small programs' cases (P, N) are handed to target/bin/planes and target/bin/test_planes. Prints how many cases of each kind were tried, how many of them
 were refused, and those that differ; the exit status is 1 if one does. A kind, or a name in a case, that this file does not know is an error."""
 import array
 import collections
@@ -55,6 +55,20 @@ def mosaic_back(case):
     return [number] + vectors.lst(mosaic)
 
 
+def jump(case):
+    return [rokzimp.jump(*case.ns(2))]
+
+
+def test_frame(case):
+    named, frame = case.ns(3), samples(case.l())
+    return [number_of(rokzimp.test_frame, *named, frame)] + vectors.lst(frame)
+
+
+def test_row(case):
+    named, row = case.ns(4), samples(case.l())
+    return [number_of(rokzimp.test_row, *named, row)] + vectors.lst(row)
+
+
 def place(view, plane):
     """Where the view starts in the plane, which holds 0 only, and how long it is: what is written through the view shows there."""
     view[-1] = 2
@@ -84,16 +98,21 @@ def partner_view(case):
     return [0, which] + place(view, red if which == 0 else blue)
 
 
-def program(case):
-    ran = subprocess.run([os.path.join(ROOT, "target", "bin", "planes")], input=bytes(case.l()), capture_output=True)
-    return vectors.lst(ran.stdout)
+def program(name):
+    def tried(case):
+        ran = subprocess.run([os.path.join(ROOT, "target", "bin", name)], input=bytes(case.l()), capture_output=True)
+        return vectors.lst(ran.stdout)
+    return tried
 
 
-TRIED = {"S": strip, "V": row_view, "Q": partner_view, "P": program, "M": mosaic_back}
+TRIED = {"S": strip, "V": row_view, "Q": partner_view, "P": program("planes"), "M": mosaic_back, "J": jump,
+         "W": test_frame, "L": test_row, "N": program("test_planes")}
 
 
 def refused(kind, answer):
-    return bytes(answer[1:]).startswith(b"refused") if kind == "P" else answer[0] != 0
+    if kind == "J":  # a state, and no number
+        return False
+    return bytes(answer[1:]).startswith(b"refused") if kind in "PN" else answer[0] != 0
 
 
 def main(seed, count="200"):

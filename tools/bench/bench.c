@@ -1,7 +1,7 @@
 /* Megapixels per second of one thread on a 4096 by 4096 frame: the proved library beside strip_general of reference/demosaic.c in its
  * two builds, in whole numbers and with quotients guessed in floating point and put right (-DFPDIV); in strips of 1, 16, 64 and 4096
- * rows of random readings, and whole for other readings; the mosaic back of the whole frame, beside a plain function below; and the
- * memory that each uses beside the mosaic and the planes.
+ * rows of random readings, and whole for other readings; the mosaic back of the whole frame, a test frame, and the same by single rows,
+ * each beside a plain function below; and the memory that each uses beside the mosaic and the planes.
  *
  *   bench [seconds]    time spent at the least on each figure (default 2)
  *
@@ -114,6 +114,60 @@ static void mosaic_back(int plain) {
     if (r) { printf("refused %u\n", r); exit(1); }
 }
 
+/* Test frames, written plainly. */
+__attribute__((noipa)) static uint32_t plain_walk(uint32_t s, size_t W, size_t H, uint16_t *out, size_t out_count) {
+    if (W < LEAST || W > 4096 || H < LEAST || H > 4096) return 1;
+    if (out_count != W * H) return 5;
+    for (size_t k = 0; k < out_count; k++) {
+        s = s * 1664525u + 1013904223u;
+        out[k] = (uint16_t)(s >> 20);
+    }
+    return 0;
+}
+__attribute__((noipa)) static uint32_t plain_row(uint32_t s, size_t W, size_t H, size_t row, uint16_t *out, size_t out_count) {
+    if (W < LEAST || W > 4096 || H < LEAST || H > 4096) return 1;
+    if (row >= H) return 3;
+    if (out_count != W) return 5;
+    uint32_t m = 1664525u, c = 1013904223u;
+    for (uint64_t r = (uint64_t)row * W; r; r >>= 1, c = m * c + c, m = m * m)
+        if (r & 1) s = m * s + c;
+    for (size_t k = 0; k < W; k++) {
+        s = s * 1664525u + 1013904223u;
+        out[k] = (uint16_t)(s >> 20);
+    }
+    return 0;
+}
+static void test_frame(int plain) {
+    size_t samples = (size_t)SIZE * SIZE;
+    uint32_t r = (plain ? plain_walk : rokzimp_test_frame)(7, SIZE, SIZE, back[plain], samples);
+    if (r) { printf("refused %u\n", r); exit(1); }
+}
+static void test_rows(int plain) {
+    for (size_t row = 0; row < SIZE; row++) {
+        uint32_t r = (plain ? plain_row : rokzimp_test_row)(8, SIZE, SIZE, row, back[plain] + row * SIZE, SIZE);
+        if (r) { printf("refused %u\n", r); exit(1); }
+    }
+}
+
+/* the library's function and a plain one that write the same, in turn; whether what they wrote differs */
+static int beside(const char *what, void (*run)(int plain), double seconds) {
+    size_t samples = (size_t)SIZE * SIZE;
+    double best[2] = {1e9, 1e9}, spent = 0;
+    for (int turn = 0; turn < 2 || spent < 2 * seconds; turn++)
+        for (int plain = 0; plain < 2; plain++) {
+            double t = now();
+            run(plain);
+            t = now() - t;
+            spent += t;
+            if (t < best[plain]) best[plain] = t;
+        }
+    int differ = memcmp(back[0], back[1], samples * 2) != 0;
+    printf("%s: library %.1f, a plain C function %.1f, ratio %.2f%s\n", what, (double)samples / best[0] * 1e-6,
+           (double)samples / best[1] * 1e-6, best[1] / best[0], differ ? "  THEY DIFFER" : "");
+    fflush(stdout);
+    return differ;
+}
+
 /* the stack that one call takes: run on a stack of a known pattern, and see how deep it was overwritten */
 static void *one_call(void *who) {
     frame(*(int *)who, SIZE);
@@ -180,19 +234,13 @@ int main(int argc, char **argv) {
         printf(" %6.2f %6.2f%s\n", best[WHOLE] / best[LIBRARY], best[FP] / best[LIBRARY], differ ? "  PLANES DIFFER" : "");
         fflush(stdout);
     }
-    double best[2] = {1e9, 1e9}, spent = 0;
-    for (int turn = 0; turn < 2 || spent < 2 * seconds; turn++)
-        for (int plain = 0; plain < 2; plain++) {
-            double t = now();
-            mosaic_back(plain);
-            t = now() - t;
-            spent += t;
-            if (t < best[plain]) best[plain] = t;
-        }
-    int differ = memcmp(back[0], back[1], samples * 2) != 0 || memcmp(back[0], mosaic, samples * 2) != 0;
-    bad |= differ;
-    printf("the mosaic back, the whole frame: library %.1f, a plain C function %.1f, ratio %.2f%s\n", (double)samples / best[0] * 1e-6,
-           (double)samples / best[1] * 1e-6, best[1] / best[0], differ ? "  MOSAICS DIFFER" : "");
+    bad |= beside("the mosaic back, the whole frame", mosaic_back, seconds);
+    if (memcmp(back[0], mosaic, samples * 2)) {
+        printf("THE MOSAIC DIFFERS\n");
+        bad = 1;
+    }
+    bad |= beside("a test frame", test_frame, seconds);
+    bad |= beside("a test frame by single rows", test_rows, seconds);
     printf("memory beside the mosaic and the planes, the thread's own few thousand bytes of stack included:\n");
     printf("  %-10s %8zu bytes of stack, %zu for the mosaic back, no heap\n", names[LIBRARY], stack_used(one_call, LIBRARY),
            stack_used(one_back, 0));

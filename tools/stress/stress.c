@@ -2,11 +2,11 @@
  *
  *   stress [cases [seed]]    default 100000 cases, seed 1
  *
- * Each case is a strip call, a mosaic back, a row view and a partner view. Every buffer of a strip and of a mosaic back ends at a
- * protected page, so a touch past its end stops the program; every second case runs again with buffers that start just after a
- * protected page. What is lent to be read is mapped read-only, so a write to it stops the program too. What is written is compared
- * whole, with up to 8 KB on each side of it. The mosaic back and the views are compared with their rules below, worked out in 128
- * bits where a sum or a product could wrap. */
+ * Each case is a strip call, a mosaic back, a test frame, a row of one, a jump, a row view and a partner view. Every buffer but a
+ * view's ends at a protected page, so a touch past its end stops the program; every second case runs again with buffers that start just
+ * after a protected page. What is lent to be read is mapped read-only, so a write to it stops the program too. What is written is
+ * compared whole, with up to 8 KB on each side of it. All but strips are compared with their rules below, worked out in 128 bits where a
+ * sum or a product could wrap. */
 #define _GNU_SOURCE
 #include <signal.h>
 #include <stdint.h>
@@ -126,7 +126,8 @@ static int after(const uint16_t *fill, const uint16_t *expected, size_t at, size
 enum { NUMBERS = 10 }; /* 0 and the refusals */
 static Room piece, seen[3], plane[3];
 static uint16_t *expected[3];
-static uint64_t strips[NUMBERS], backs[NUMBERS], rows_seen[NUMBERS], partners[NUMBERS], calls, back_calls;
+static uint64_t strips[NUMBERS], backs[NUMBERS], frames[NUMBERS], rows_made[NUMBERS], rows_seen[NUMBERS], partners[NUMBERS];
+static uint64_t calls, back_calls, frame_calls;
 
 typedef struct { uint64_t W, H, layout, a, n; } Call;
 
@@ -287,6 +288,76 @@ static void back_case(int twice) {
     }
 }
 
+/* Test frames as the papers have them. A jump is single steps where they are few, and otherwise the map that so many steps make. */
+static uint32_t next_state(uint32_t s) { return s * 1664525u + 1013904223u; }
+static uint32_t jump_rule(uint32_t s, uint64_t r) {
+    if (r < 300) {
+        while (r--) s = next_state(s);
+        return s;
+    }
+    uint32_t mul = 1, add = 0, m = 1664525u, c = 1013904223u;
+    for (; r; r >>= 1, c = m * c + c, m = m * m)
+        if (r & 1) {
+            mul = m * mul;
+            add = m * add + c;
+        }
+    return mul * s + add;
+}
+static void walk_rule(uint32_t s, uint16_t *out, size_t len) {
+    for (size_t k = 0; k < len; k++) {
+        s = next_state(s);
+        out[k] = (uint16_t)(s >> 20);
+    }
+}
+static uint32_t frame_rule(uint32_t seed, uint64_t W, uint64_t H, uint16_t *out, size_t len) {
+    if (off(W) || off(H)) return 1;
+    if (len != (wide)W * H) return 5;
+    walk_rule(seed, out, len);
+    return 0;
+}
+static uint32_t row_rule(uint32_t seed, uint64_t W, uint64_t H, uint64_t row, uint16_t *out, size_t len) {
+    if (off(W) || off(H)) return 1;
+    if (row >= H) return 3;
+    if (len != W) return 5;
+    walk_rule(jump_rule(seed, row * W), out, len);
+    return 0;
+}
+
+static void frame_case(int twice) {
+    uint32_t seed = one_in(8) ? 0 : (uint32_t)rnd();
+    uint64_t W = size(), H = size(), row = one_in(3) ? H - 1 : below(H);
+    while (W * H > (one_in(15) ? ROOM : 12000)) W = size(), H = size();
+    size_t len = (size_t)(W * H), row_len = (size_t)W;
+    if (one_in(8)) H = 4096, row = below(H); /* more rows than there is room for: the row alone is made, and the frame misfits */
+    if (one_in(2))
+        for (uint64_t k = 1 + below(2); k > 0; k--)
+            switch (below(5)) {
+            case 0: W = one_in(2) ? odd_number() : W + 1 - 2 * below(2); break;
+            case 1: H = one_in(2) ? odd_number() : H + 1 - 2 * below(2); break;
+            case 2: row = one_in(2) ? odd_number() : H; break;
+            case 3: len = other_length(len, W); break;
+            default: row_len = other_length(row_len, W); break;
+            }
+    uint64_t start = rnd();
+    for (int round = 0; round <= twice; round++) {
+        size_t at = place(round, len), row_at = place(round, row_len);
+        before(plane[0].fill, expected[0], at, len, start);
+        before(plane[1].fill, expected[1], row_at, row_len, start + 1);
+        uint32_t asked = frame_rule(seed, W, H, expected[0] + at, len), row_asked = row_rule(seed, W, H, row, expected[1] + row_at, row_len);
+        uint32_t got = rokzimp_test_frame(seed, W, H, plane[0].lent + at, len);
+        uint32_t row_got = rokzimp_test_row(seed, W, H, row, plane[1].lent + row_at, row_len);
+        frame_calls++;
+        same("the test frame's number", got, asked);
+        same("the test row's number", row_got, row_asked);
+        frames[got < NUMBERS ? got : 0]++;
+        rows_made[row_got < NUMBERS ? row_got : 0]++;
+        if (!after(plane[0].fill, expected[0], at, len)) differs("the test frame", got);
+        if (!after(plane[1].fill, expected[1], row_at, row_len)) differs("the test row", row_got);
+    }
+    uint64_t steps = one_in(2) ? odd_number() : rnd() >> below(64);
+    same("the jump", rokzimp_jump(seed, steps), jump_rule(seed, steps));
+}
+
 static int lacks(size_t len, uint64_t W, uint64_t row) { return (wide)len < ((wide)row + 1) * W; }
 
 static void view_cases(int at_start) {
@@ -340,13 +411,16 @@ int main(int argc, char **argv) {
     for (the_case = 0; the_case < cases; the_case++) {
         strip_case((int)(the_case % 2));
         back_case((int)(the_case % 2));
+        frame_case((int)(the_case % 2));
         view_cases((int)(the_case % 2));
     }
-    printf("%llu cases, seed %llu; %llu strip calls, %llu mosaics back, %llu row views, %llu partner views\n", (unsigned long long)cases,
-           (unsigned long long)the_seed, (unsigned long long)calls, (unsigned long long)back_calls, (unsigned long long)cases,
-           (unsigned long long)cases);
+    printf("%llu cases, seed %llu; %llu strip calls, %llu mosaics back, %llu test frames and as many rows of such, %llu jumps, row views and partner views\n",
+           (unsigned long long)cases, (unsigned long long)the_seed, (unsigned long long)calls, (unsigned long long)back_calls,
+           (unsigned long long)frame_calls, (unsigned long long)cases);
     show("strips", strips);
     show("mosaics back", backs);
+    show("test frames", frames);
+    show("test rows", rows_made);
     show("row views", rows_seen);
     show("partner views", partners);
     printf("mismatches %llu\n", (unsigned long long)mismatches);

@@ -8,22 +8,23 @@ use borrow.Author.Tests.{ltb-false, le-ltb, eq-eqb, ne-eqb, not-false}
 use lib.Dec.{ltb, eqb, eqb→eq}
 use Rattle.whole.proofs.Tests.{neither}
 use Rattle.lists.specs.Bound.{AllAtMost}
-use Rattle.lists.proofs.AnyLaws.{none-above}
+use Rattle.lists.proofs.AnyLaws.{none-above, above-none}
 use Rattle.bayer.specs.declared.frame.Frame.{Frame}
 use Rattle.bayer.specs.Refusal.{firstOf}
-use Rattle.bayer.specs.Condition.{outsideSizes, frameCases, FrameFits, rowsCases, planesMisfit, rangeCases}
-use Rattle.bayer.proofs.RefusalLaws.{off, on}
+use Rattle.bayer.specs.Condition.{outsideSizes, sizeCases, layoutCases, frameCases, FrameFits, rowsCases, planesMisfit, rangeCases}
+use Rattle.bayer.proofs.RefusalLaws.{off, on, off-append}
 
 size-fits : (n : ℕ) → outsideSizes n ≡ false → (8 ≤ n) × (n ≤ 4096)
 size-fits n e = let p = neither (ltb n 8) (ltb 4096 n) e in (ltb-false n 8 (p .0), ltb-false 4096 n (p .1))
 
+pub sizes-fit : (W H : ℕ) → firstOf (sizeCases W H) ≡ 0 → ((8 ≤ W) × (W ≤ 4096)) × ((8 ≤ H) × (H ≤ 4096))
+sizes-fit W H e = let o = neither (outsideSizes W) (outsideSizes H) (off (sizeCases W H) e .0) in (size-fits W (o .0), size-fits H (o .1))
+
 pub frame-fits : (f : Frame) → firstOf (frameCases f) ≡ 0 → FrameFits f
 frame-fits f e =
-    let o = off (frameCases f) e in
-    let sizes = neither (outsideSizes (f .width)) (outsideSizes (f .height)) (o .0) in
-    let w = size-fits (f .width) (sizes .0) in
-    let h = size-fits (f .height) (sizes .1) in
-    record { wide = w .0; narrow = w .1; high = h .0; low = h .1; known = ltb-false 3 (f .layout) (o .1 .0) }
+    let o = off-append (sizeCases (f .width) (f .height)) (layoutCases (f .layout)) e in
+    let s = sizes-fit (f .width) (f .height) (o .0) in
+    record { wide = s .0 .0; narrow = s .0 .1; high = s .1 .0; low = s .1 .1; known = ltb-false 3 (f .layout) (off (layoutCases (f .layout)) (o .1) .0) }
 
 pub frame-passes : (f : Frame) → FrameFits f → firstOf (frameCases f) ≡ 0
 frame-passes f w =
@@ -56,3 +57,6 @@ planes-pass size red green blue r g b = rw (eq-eqb red size r, eq-eqb green size
 
 pub readings-fit : (readings : List ℕ) → firstOf (rangeCases readings) ≡ 0 → AllAtMost 4095 readings
 readings-fit readings e = none-above 4095 readings (off (rangeCases readings) e .0)
+
+pub readings-pass : (readings : List ℕ) → AllAtMost 4095 readings → firstOf (rangeCases readings) ≡ 0
+readings-pass readings h = on (rangeCases readings) (above-none 4095 readings h, tt)

@@ -1,10 +1,11 @@
 -- Laws of conditions that are tested in their order. Assumes nothing.
 use Prim.Native.Nat.{ℕ, zero, suc, _<_}
-use mathlib.Core.Path.{_≡_, refl, sym, _∙_}
-use mathlib.Core.Bool.{Bool, true, false, cond}
+use mathlib.Core.Path.{_≡_, refl, sym, ap, _∙_}
+use mathlib.Core.Bool.{Bool, true, false, cond, true≢false}
 use mathlib.Core.List.{List, [], _∷_, _++_}
 use native.Mathlib.Omega.{arith}
-use Rattle.bayer.specs.Refusal.{Refusal, sizeOutOfRange, unknownLayout, rowsOutsideFrame, wrongPieceLength, wrongPlaneLength, readingOutOfRange, rowMissing, malformedFile, notCameraPlanes, number, Case, firstOf, heldAfter}
+use Rattle.lists.specs.Every.{Every}
+use Rattle.bayer.specs.Refusal.{Refusal, sizeOutOfRange, unknownLayout, rowsOutsideFrame, wrongPieceLength, wrongPlaneLength, readingOutOfRange, rowMissing, malformedFile, notCameraPlanes, number, Case, firstOf, heldAfter, Delivers}
 
 pub number-positive : (r : Refusal) → 0 < number r
 number-positive sizeOutOfRange = omega arith
@@ -88,8 +89,34 @@ on (c ∷ cs) h = rw (h .0) (on cs (h .1))
 pub off-append : (cs ds : List Case) → firstOf (cs ++ ds) ≡ 0 → (firstOf cs ≡ 0) × (firstOf ds ≡ 0)
 off-append cs ds e = or-none (firstOf cs) (firstOf ds) (sym (first-append cs ds) ∙ e)
 
+pub on-append : (cs ds : List Case) → firstOf cs ≡ 0 → firstOf ds ≡ 0 → firstOf (cs ++ ds) ≡ 0
+on-append cs ds e d = later cs ds e ∙ d
+
+-- a number is not answered, where no condition of its refusal holds
+pub never : (k : ℕ) → 0 < k → (cs : List Case) → Every (λ c. number (c .refusal) ≡ k → c .holds ≡ false) cs → firstOf cs ≡ k → ⊥
+unfolding firstOf
+never k h [] p e = omega arith
+never k h (c ∷ cs) p e = by-test (c .holds) (p .0) (never k h cs (p .1)) e
+  where
+    by-test : (b : Bool) → (number (c .refusal) ≡ k → b ≡ false) → (firstOf cs ≡ k → ⊥) → cond b (number (c .refusal)) (firstOf cs) ≡ k → ⊥
+    by-test true q later e = true≢false (q e)
+    by-test false q later e = later e
+
 -- a refused call leaves what it was lent
 pub refused-holds : (number : ℕ) (delivered lent : List ℕ) → (number ≡ 0 → ⊥) → heldAfter number delivered lent ≡ lent
 unfolding heldAfter
 refused-holds zero delivered lent h = absurd (h refl)
 refused-holds (suc n) delivered lent h = refl
+
+-- what an accepted call leaves
+pub delivers : {number answer : ℕ} {delivered lent after : List ℕ} → Delivers number delivered lent answer after → answer ≡ 0 → after ≡ delivered
+unfolding heldAfter
+delivers {delivered = d} {lent = l} p e = p .held ∙ ap (λ k. heldAfter k d l) e
+
+-- a call that is refused before it writes, and one that is accepted
+pub refuses : {number answer : ℕ} {delivered lent : List ℕ} → answer ≡ number → (answer ≡ 0 → ⊥) → Delivers number delivered lent answer lent
+refuses e h = record { answered = e; held = sym (refused-holds _ _ _ h) }
+
+pub accepts : {number : ℕ} {delivered lent after : List ℕ} → 0 ≡ number → after ≡ delivered → Delivers number delivered lent 0 after
+unfolding heldAfter
+accepts e d = record { answered = e; held = d }

@@ -5,7 +5,7 @@ use mathlib.Core.List.{List, [], _∷_, _++_}
 use lib.Dec.{ltb, eqb}
 use Rattle.lists.specs.Bound.{anyAbove}
 use Rattle.bayer.specs.declared.frame.Frame.{Frame}
-use Rattle.bayer.specs.Refusal.{Case, _when_, sizeOutOfRange, unknownLayout, rowsOutsideFrame, readingOutOfRange}
+use Rattle.bayer.specs.Refusal.{Case, _when_, sizeOutOfRange, unknownLayout, rowsOutsideFrame, wrongPlaneLength, readingOutOfRange}
 
 -- 1, for a width or a height: outside 8 to 4096
 abbrev pub outsideSizes : ℕ → Bool
@@ -18,9 +18,12 @@ sizeCases width height = (sizeOutOfRange when (outsideSizes width || outsideSize
 abbrev pub outsideLayouts : (layout : ℕ) → Bool
 outsideLayouts layout = ltb 3 layout
 
+abbrev pub layoutCases : (layout : ℕ) → List Case
+layoutCases layout = (unknownLayout when outsideLayouts layout) ∷ []
+
 -- both, of a frame description
 abbrev pub frameCases : Frame → List Case
-frameCases f = sizeCases (f .width) (f .height) ++ (unknownLayout when outsideLayouts (f .layout)) ∷ []
+frameCases f = sizeCases (f .width) (f .height) ++ layoutCases (f .layout)
 
 -- a frame that neither is refused for
 pub record FrameFits (f : Frame) : Type 0 where
@@ -40,6 +43,10 @@ rowsCases f a n = (rowsOutsideFrame when rowsOutside (f .height) a n) ∷ []
 -- 5, of three planes: one of them is not so long
 abbrev pub planesMisfit : (size red green blue : ℕ) → Bool
 planesMisfit size red green blue = not (eqb red size) || (not (eqb green size) || not (eqb blue size))
+
+-- 5, of one list that is lent
+abbrev pub misfitCases : (size lent : ℕ) → List Case
+misfitCases size lent = (wrongPlaneLength when not (eqb lent size)) ∷ []
 
 -- 6: some reading is above 4095
 abbrev pub rangeCases : (readings : List ℕ) → List Case

@@ -1,5 +1,6 @@
 -- The refusals, their numbers, and conditions tested in their order. Assumes nothing.
 use Prim.Native.Nat.{ℕ, zero, suc}
+use mathlib.Core.Path.{_≡_}
 use mathlib.Core.Bool.{Bool, cond}
 use mathlib.Core.List.{List, [], _∷_}
 
@@ -45,3 +46,8 @@ firstOf (c ∷ cs) = cond (c .holds) (number (c .refusal)) (firstOf cs)
 unfoldable pub heldAfter : (number : ℕ) (delivered lent : List ℕ) → List ℕ
 heldAfter zero delivered lent = delivered
 heldAfter (suc n) delivered lent = lent
+
+-- THE CONTRACT of a call that writes one list: its answer is the number, and what was lent to it holds accordingly
+pub record Delivers (number : ℕ) (delivered lent : List ℕ) (answer : ℕ) (after : List ℕ) : Type 0 where
+  pub answered : answer ≡ number
+  pub held : after ≡ heldAfter answer delivered lent

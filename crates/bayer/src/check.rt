@@ -1,6 +1,6 @@
 ghost use mathlib.Core.Path.{_≡_};
 ghost use mathlib.Core.List.{_++_};
-ghost use Rattle.bayer.specs.Condition.{outsideSizes, frameCases, rowsOutside, rowsCases, planesMisfit};
+ghost use Rattle.bayer.specs.Condition.{outsideSizes, sizeCases, frameCases, rowsOutside, rowsCases, planesMisfit};
 ghost use Rattle.bayer.specs.Refusal.{firstOf};
 use crate::frame::Frame;
 use crate::refusal::ROWS_OUTSIDE_FRAME;
@@ -17,15 +17,23 @@ pub fn outside_sizes(n: usize) -> bool
     4096 < n
 }
 
+// Refusal 1, of a width and a height.
+pub fn sizes_check(width: usize, height: usize) -> u32
+    ensures { λ r. ⌜ r ≡ firstOf (sizeCases width height) ⌝ }
+{
+    if outside_sizes(width) | outside_sizes(height) {
+        return SIZE_OUT_OF_RANGE;
+    }
+    0
+}
+
 // Refusals 1 and 2, of a frame description.
 pub fn frame_check(frame: Frame) -> u32
     ensures { λ r. ⌜ r ≡ firstOf (frameCases frame) ⌝ }
 {
-    if outside_sizes(frame.width) {
-        return SIZE_OUT_OF_RANGE;
-    }
-    if outside_sizes(frame.height) {
-        return SIZE_OUT_OF_RANGE;
+    let number = sizes_check(frame.width, frame.height);
+    if number != 0 {
+        return number;
     }
     if 3 < frame.layout {
         return UNKNOWN_LAYOUT;

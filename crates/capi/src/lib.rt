@@ -10,6 +10,10 @@ ghost use Rattle.bayer.specs.View.{rowViewNumber, partnerViewNumber, shown, sho
 ghost use Rattle.bayer.specs.Planes.{planeOf, threePlanes};
 ghost use Rattle.strip.specs.Strip.{asked, stripNumber, Promise};
 ghost use Rattle.remosaic.specs.MosaicBack.{mosaicNumber, MosaicPromise};
+ghost use Rattle.bayer.specs.Refusal.{Delivers};
+ghost use Rattle.test_frames.specs.Generator.{stateAfter};
+ghost use Rattle.test_frames.specs.Jump.{jumped};
+ghost use Rattle.test_frames.specs.TestFrame.{testFrame, walkNumber, rowNumber};
 ghost use Rattle.capi.specs.Call.{planeNumber};
 use bayer::colour::Colour;
 use bayer::colour::partner;
@@ -24,6 +28,9 @@ use remosaic::back::mosaic_back;
 use remosaic::check::mosaic_back_check;
 use strip::check::strip_check;
 use strip::strip::strip;
+use test_frames::frame::test_frame;
+use test_frames::frame::test_row;
+use test_frames::jump::jump;
 
 // The number of a strip call that is lent planes of these lengths: 0, or its refusal.
 #[no_mangle]
@@ -99,6 +106,41 @@ pub extern "C" fn rokzimp_mosaic_back<'a>(
 {
     let frame = Frame::new(width, height, layout);
     mosaic_back(frame, a, n, red, green, blue, mosaic)
+}
+
+// The test frame of a seed.
+#[no_mangle]
+pub extern "C" fn rokzimp_test_frame(
+    seed: u32,
+    width: usize,
+    height: usize,
+    frame: &mut [u16],
+) -> u32
+    ensures { λ r. ⌜ Delivers (walkNumber width height (length (now (frame .entry)))) (testFrame seed width height) (now (frame .entry)) r (now (frame .exit)) ⌝ }
+{
+    test_frame(seed, width, height, frame)
+}
+
+// One row of it.
+#[no_mangle]
+pub extern "C" fn rokzimp_test_row(
+    seed: u32,
+    width: usize,
+    height: usize,
+    row: usize,
+    out: &mut [u16],
+) -> u32
+    ensures { λ r. ⌜ Delivers (rowNumber width height row (length (now (out .entry)))) (rowOf width row (testFrame seed width height)) (now (out .entry)) r (now (out .exit)) ⌝ }
+{
+    test_row(seed, width, height, row, out)
+}
+
+// The state after so many steps.
+#[no_mangle]
+pub extern "C" fn rokzimp_jump(state: u32, steps: u64) -> u32
+    ensures { λ r. ⌜ (r ≡ stateAfter state steps) × (r ≡ jumped state steps) ⌝ }
+{
+    jump(state, steps)
 }
 
 // The first row of the piece that a strip from row a is lent.

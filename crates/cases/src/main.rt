@@ -11,6 +11,7 @@ mod piece_case;
 mod print;
 mod recipe;
 mod strip_case;
+mod test_case;
 mod view_case;
 
 // One line: a case, by its letter, or a comment.
@@ -23,6 +24,15 @@ fn answer(letter: u8, f: &Fields) {
     }
     if letter == b'B' {
         mosaic_case::run_strip(f);
+    }
+    if letter == b'J' {
+        test_case::run_jump(f);
+    }
+    if letter == b'W' {
+        test_case::run_frame(f);
+    }
+    if letter == b'L' {
+        test_case::run_row(f);
     }
     if letter == b'V' {
         view_case::run_row(f);

@@ -30,8 +30,8 @@ fn call<'a>(
         mosaic.len(),
     );
     let got = rokzimp_mosaic_back(f[1], f[2], layout(f[3]), a, n, red, green, blue, mosaic);
-    io::print_decimal(1, print::refusal(got));
-    print::number(print::refusal(first));
+    io::print_decimal(1, print::word(got));
+    print::number(print::word(first));
     print::plane(mosaic);
     io::write_all(1, b"\n");
 }

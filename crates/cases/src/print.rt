@@ -16,7 +16,7 @@ pub fn sample(x: u16) -> u64
     x as u64
 }
 
-pub fn refusal(x: u32) -> u64 {
+pub fn word(x: u32) -> u64 {
     x as u64
 }
 

@@ -8,8 +8,8 @@ use capi::rokzimp_strip_check;
 
 // The answer: the two numbers, and the planes.
 fn show(got: u32, first: u32, red: &[u16], green: &[u16], blue: &[u16]) {
-    io::print_decimal(1, print::refusal(got));
-    print::number(print::refusal(first));
+    io::print_decimal(1, print::word(got));
+    print::number(print::word(first));
     print::plane(red);
     print::plane(green);
     print::plane(blue);

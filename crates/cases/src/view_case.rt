@@ -28,7 +28,7 @@ fn row(f: &Fields, plane: &[u16]) {
     let number = rokzimp_row_view_check(plane, f[1], f[2]);
     let start = rokzimp_row_view_start(plane, f[1], f[2]);
     let length = rokzimp_row_view_length(plane, f[1], f[2]);
-    io::print_decimal(1, print::refusal(number));
+    io::print_decimal(1, print::word(number));
     shown(start, length, row_view(plane, f[1], f[2]));
 }
 
@@ -61,8 +61,8 @@ fn partner<'a>(f: &Fields, red: &'a [u16], blue: &'a [u16]) {
     let number = rokzimp_partner_view_check(red, blue, f[1], f[2], l, f[4]);
     let start = rokzimp_partner_view_start(red, blue, f[1], f[2], l, f[4]);
     let length = rokzimp_partner_view_length(red, blue, f[1], f[2], l, f[4]);
-    io::print_decimal(1, print::refusal(number));
-    print::number(print::refusal(plane_shown(number, l, f[4])));
+    io::print_decimal(1, print::word(number));
+    print::number(print::word(plane_shown(number, l, f[4])));
     shown(
         start,
         length,

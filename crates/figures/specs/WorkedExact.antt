@@ -1,4 +1,4 @@
--- Values of the exact reconstruction of the frames of WorkedPlanes.antt. proofs/ExactTable.antt has the theorem. Made by tools/make_figures.py 2 from reference/, stage A.2, and from nothing else. Assumes nothing.
+-- Values of the exact reconstruction of the frames of WorkedPlanes.antt. proofs/ExactTable.antt has the theorem. Made by tools/make_figures.py 2 from reference/, stage A.3, and from nothing else. Assumes nothing.
 use mathlib.Core.List.{List, [], _∷_}
 use Rattle.bayer.specs.declared.colour.Colour.the-variants.{Red, Green, Blue}
 use Rattle.figures.specs.Worked.{Value, exactly, ExactClaim, givesExact}

@@ -1,3 +1,2 @@
-pub mod BigEndianLaws
 pub mod FileLaws
 pub mod AnswerLaws

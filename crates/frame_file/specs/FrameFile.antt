@@ -1,21 +1,16 @@
 -- The frame file, and what the small program prints of it. Assumes nothing.
-use Prim.Native.Nat.{ℕ, zero, suc, _+_, _*_}
+use Prim.Native.Nat.{ℕ, _+_, _*_}
 use mathlib.Core.Bool.{Bool, not, _||_}
 use mathlib.Core.List.{List, _∷_, _++_}
 use lib.Dec.{ltb, eqb}
 use lib.ListN.{length, getD, drop}
 use Rattle.lists.specs.Table.{table}
+use Rattle.frame_bytes.specs.FrameBytes.{bigEndian, frameAt}
 use Rattle.bayer.specs.declared.frame.Frame.{Frame}
-use Rattle.bayer.specs.Frame.{frame}
 use Rattle.bayer.specs.Condition.{frameCases, rangeCases}
 use Rattle.bayer.specs.Refusal.{_when_, malformedFile, firstOf}
 use Rattle.demosaic.specs.Sample.{framePlane}
 use Rattle.plane_text.specs.Text.{lines, printed}
-
--- a number of n bytes from byte `at` on, big-endian
-unfoldable pub bigEndian : (bytes : List ℕ) (at n : ℕ) → ℕ
-bigEndian bytes at zero = 0
-bigEndian bytes at (suc n) = bigEndian bytes at n * 256 + getD bytes (at + n) 0
 
 -- a version byte; a four-byte length of all that follows it; W and H, two bytes each; one layout byte; W × H readings, two bytes each
 abbrev pub version : (bytes : List ℕ) → ℕ
@@ -25,7 +20,7 @@ abbrev pub restLength : (bytes : List ℕ) → ℕ
 restLength bytes = bigEndian bytes 1 4
 
 abbrev pub frameOf : (bytes : List ℕ) → Frame
-frameOf bytes = frame (bigEndian bytes 5 2) (bigEndian bytes 7 2) (getD bytes 9 0)
+frameOf bytes = frameAt bytes 5
 
 unfoldable pub readings : (bytes : List ℕ) → List ℕ
 readings bytes = table (λ k. bigEndian bytes (10 + 2 * k) 2) (frameOf bytes .width * frameOf bytes .height)

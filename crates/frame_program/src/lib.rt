@@ -1,11 +1,13 @@
-// What the programs `planes` and `planes_long` run.
-use frame_file::answer::answer_read;
+// What the programs run: each reads, answers and prints.
+ghost use Prim.Native.Nat.{_≤_};
+ghost use lib.ListN.{length};
 
-// Reads a frame file from standard input and prints the smallest, the largest and the sum of each plane, or the number of its refusal.
-pub fn run() {
-    let mut bytes = [0u8; 8203];
-    let n = io::read_full(0, &mut bytes);
-    let mut out = [0u8; 105];
-    let size = answer_read(bytes, n, &mut out);
-    io::write_all(1, &out[..size]);
+pub mod file;
+pub mod test;
+
+// Prints the first n bytes.
+pub fn print(text: &[u8], n: usize)
+    requires { ⌜ n ≤ length (now text) ⌝ }
+{
+    io::write_all(1, &text[..n]);
 }

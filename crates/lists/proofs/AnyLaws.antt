@@ -7,7 +7,7 @@ use native.Mathlib.Decide.{decLe}
 use native.Mathlib.Nat.{not-suc-le-zero}
 use native.Mathlib.Numerals.{add-one}
 use native.Mathlib.Omega.{arith}
-use borrow.Author.Tests.{ltb-false}
+use borrow.Author.Tests.{ltb-false, le-ltb}
 use lib.Dec.{ltb}
 use lib.ListN.{length, getD, drop, drop-of-length-le}
 use lib.Seq.{drop-cons}
@@ -106,6 +106,11 @@ module _ {A : Type 0} (p : A → Bool) where
       (none-passed (λ n. any p (joined (λ i. table (rule i) w) n)) (λ i. any p (table (rule i) w)) (any-joined-none _) (any-joined _) n e i h) j k
 
 -- ---- none above m
+
+pub above-none : (m : ℕ) (l : List ℕ) → AllAtMost m l → anyAbove m l ≡ false
+unfolding any
+above-none m [] h = refl
+above-none m (x ∷ l) h = rw (le-ltb m x (h 0)) (above-none m l (λ k. h (suc k)))
 
 pub none-above : (m : ℕ) (l : List ℕ) → anyAbove m l ≡ false → AllAtMost m l
 unfolding any

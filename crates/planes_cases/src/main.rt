@@ -1,12 +1,23 @@
-// Reads frame files, each behind a two-byte length of its own, and prints what the small program prints for each. tools/planes_cases.py makes them, and from
-// another implementation what is to be printed.
+// Reads inputs of the small programs, each behind a byte that says of which (0: frame files, 1: test frames) and a two-byte length of its own, and prints what
+// that program prints for each. tools/planes_cases.py makes them, and from another implementation what is to be printed.
 ghost use Prim.Native.Nat.{_≤_};
-use frame_file::answer::answer;
+use frame_file::answer;
+use frame_program::print;
+use test_bytes::answer as test_answer;
 
-fn print_answer(bytes: &[u8]) {
+fn answer_of(program: u8, bytes: &[u8], out: &mut [u8]) -> usize
+    ensures { λ r. ⌜ r ≤ 105 ⌝ }
+{
+    if program == 0 {
+        return answer::answer(bytes, out);
+    }
+    test_answer::answer(bytes, out)
+}
+
+fn print_answer(program: u8, bytes: &[u8]) {
     let mut out = [0u8; 105];
-    let size = answer(bytes, &mut out);
-    io::write_all(1, &out[..size]);
+    let size = answer_of(program, bytes, &mut out);
+    print(&out, size);
 }
 
 fn wide(x: u8) -> usize
@@ -17,14 +28,15 @@ fn wide(x: u8) -> usize
 
 fn print_answers(bytes: &[u8]) {
     let mut at = 0;
-    while 2 <= bytes.len() - at {
-        let next = at + 1;
-        let start = at + 2;
-        let end = start + (wide(bytes[at]) * 256 + wide(bytes[next]));
+    while 3 <= bytes.len() - at {
+        let high = at + 1;
+        let low = at + 2;
+        let start = at + 3;
+        let end = start + (wide(bytes[high]) * 256 + wide(bytes[low]));
         if bytes.len() < end {
             return;
         }
-        print_answer(&bytes[start..end]);
+        print_answer(bytes[at], &bytes[start..end]);
         at = end;
     }
 }

@@ -1,4 +1,4 @@
 // The small program again. rt check runs it on a file that would be a frame file without its last byte.
 fn main() {
-    frame_program::run();
+    frame_program::file::run();
 }

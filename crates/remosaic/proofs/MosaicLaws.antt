@@ -18,22 +18,18 @@ use Rattle.bayer.specs.declared.colour.Colour.the-variants.{Red, Green, Blue}
 use Rattle.bayer.specs.declared.frame.Frame.{Frame}
 use Rattle.bayer.specs.Planes.{Planes}
 use Rattle.bayer.specs.Refusal.{heldAfter}
+use Rattle.bayer.proofs.RefusalLaws.{delivers}
 use Rattle.remosaic.specs.MosaicBack.{observed, observedRows, notOfCamera, mosaicNumber, mosaicRows, MosaicPromise, ComesBack}
 use Rattle.remosaic.specs.Rows.{RowsLent}
 use Rattle.remosaic.proofs.NumberLaws.{fits, accepted}
 
--- accepted, a call leaves the mosaic's rows
-accepted-rows : {f : Frame} {a n : ℕ} {planes : Planes} {lent after : List ℕ} {answer : ℕ} → MosaicPromise f a n planes lent answer after → answer ≡ 0 → after ≡ mosaicRows f a n planes
-unfolding heldAfter
-accepted-rows {f} {a} {n} {planes} {lent} p e = p .mosaic ∙ ap (λ k. heldAfter k (mosaicRows f a n planes) lent) e
-
 module _ (f : Frame) (a n : ℕ) where
   -- every reading that a call delivers is at most 4095
-  pub mosaic-range : {planes : Planes} {lent after : List ℕ} {answer : ℕ} → MosaicPromise f a n planes lent answer after → answer ≡ 0 → AllAtMost 4095 after
-  mosaic-range {planes} {lent} p e =
-      rw (accepted-rows p e)
+  pub mosaic-range : (planes : Planes) {lent after : List ℕ} {answer : ℕ} → MosaicPromise f a n planes lent answer after → answer ≡ 0 → AllAtMost 4095 after
+  mosaic-range planes {lent} p e =
+      rw (delivers p e)
       (all-parts (λ x. x ≤ 4095) 0 (omega arith) (λ i j. observed f a planes i j / 16) (f .width) n
-      (λ i j h k. in-range (observed f a planes i j) (none-in-parts notOfCamera (observed f a planes) (f .width) n (fits f a n planes (length lent) (sym (p .number) ∙ e) .camera) i j h k)))
+      (λ i j h k. in-range (observed f a planes i j) (none-in-parts notOfCamera (observed f a planes) (f .width) n (fits f a n planes (length lent) (sym (p .answered) ∙ e) .camera) i j h k)))
     where
       in-range : (s : ℕ) → notOfCamera s ≡ false → s / 16 ≤ 4095
       in-range s z = let h : s ≤ 65520 = ltb-false 65520 s (neither (not (eqb (s % 16) 0)) (ltb 65520 s) z .1) in omega arith
@@ -53,7 +49,7 @@ module _ (f : Frame) (a n : ℕ) where
     camera = sym (ap (any notOfCamera) (parts-same (observed f a p) (observed f a q) (f .width) n h)) ∙ b .camera;
     back = λ {lent} {after} {answer} e c.
         let d = observed-decide p q (length lent) l h in
-        b .back e (record { number = c .number ∙ sym (d .0); mosaic = c .mosaic ∙ ap (λ x. heldAfter answer x lent) (sym (d .1)) });
+        b .back e (record { answered = c .answered ∙ sym (d .0); held = c .held ∙ ap (λ x. heldAfter answer x lent) (sym (d .1)) });
   }
 
   -- planes whose observed samples are 16 times these readings
@@ -75,6 +71,6 @@ module _ (f : Frame) (a n : ℕ) where
     comes-back = record {
       camera = camera;
       back = λ e p.
-          let z = p .number ∙ accepted f a n planes _ some (record { lent = lent; room = e; camera = camera }) in
-          (z, accepted-rows p z ∙ divided);
+          let z = p .answered ∙ accepted f a n planes _ some (record { lent = lent; room = e; camera = camera }) in
+          (z, delivers p z ∙ divided);
     }

@@ -11,7 +11,7 @@ use Rattle.bayer.specs.declared.colour.Colour.the-variants.{Red, Green, Blue}
 use Rattle.bayer.specs.declared.frame.Frame.{Frame}
 use Rattle.bayer.specs.Colour.{colourAt}
 use Rattle.bayer.specs.Planes.{Planes}
-use Rattle.bayer.specs.Refusal.{Case, _when_, wrongPlaneLength, notCameraPlanes, firstOf, heldAfter}
+use Rattle.bayer.specs.Refusal.{Case, _when_, wrongPlaneLength, notCameraPlanes, firstOf, Delivers}
 use Rattle.bayer.specs.Condition.{frameCases, rowsCases, planesMisfit}
 
 -- the observed sample at row i of a strip from row a on, which is row a + i of the frame, and column j: that of the pixel's own colour
@@ -42,9 +42,8 @@ abbrev pub mosaicRows : Frame → (a n : ℕ) → Planes → List ℕ
 mosaicRows f a n planes = joined (λ i. table (λ j. observed f a planes i j / 16) (f .width)) n
 
 -- THE CONTRACT of a call that gives the mosaic back, which its code is proved to keep: its answer, and the mosaic lent to it as it is afterwards
-pub record MosaicPromise (f : Frame) (a n : ℕ) (planes : Planes) (lent : List ℕ) (answer : ℕ) (after : List ℕ) : Type 0 where
-  pub number : answer ≡ mosaicNumber f a n planes (length lent)
-  pub mosaic : after ≡ heldAfter answer (mosaicRows f a n planes) lent
+abbrev pub MosaicPromise : Frame → (a n : ℕ) → Planes → (lent : List ℕ) (answer : ℕ) (after : List ℕ) → Type 0
+MosaicPromise f a n planes lent answer after = Delivers (mosaicNumber f a n planes (length lent)) (mosaicRows f a n planes) lent answer after
 
 -- THERE AND BACK: 9 does not hold of the planes, and a call that is lent them and a mosaic of n rows is accepted and leaves these readings in it
 pub record ComesBack (f : Frame) (a n : ℕ) (planes : Planes) (readings : List ℕ) : Type 0 where

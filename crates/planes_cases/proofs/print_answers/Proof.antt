@@ -18,8 +18,11 @@ loop-holds c = omega arith
 sub-loop : tie.Need-sub-loop Inv-loop μ-loop
 sub-loop c = omega arith
 
-add-next : tie.Need-add-next Inv-loop μ-loop
-add-next c = omega arith
+add-high : tie.Need-add-high Inv-loop μ-loop
+add-high c = omega arith
+
+add-low : tie.Need-add-low Inv-loop μ-loop
+add-low c = omega arith
 
 add-start : tie.Need-add-start Inv-loop μ-loop
 add-start c = omega arith
@@ -47,6 +50,9 @@ add-end-2 c = omega arith
 
 returns : tie.Need-returns Inv-loop μ-loop
 returns c = search needs
+
+shared-slice-read-print-answer : tie.Need-shared-slice-read-print-answer Inv-loop μ-loop
+shared-slice-read-print-answer c = omega arith
 
 sub-print-answer : tie.Need-sub-print-answer Inv-loop μ-loop
 sub-print-answer c = omega arith
@@ -77,7 +83,8 @@ print-answers-spec =
     μ-loop
     loop-holds
     sub-loop
-    add-next
+    add-high
+    add-low
     add-start
     shared-slice-read-wide
     wide-requires
@@ -87,6 +94,7 @@ print-answers-spec =
     add-end
     add-end-2
     returns
+    shared-slice-read-print-answer
     sub-print-answer
     part-print-answer-start
     part-print-answer-end

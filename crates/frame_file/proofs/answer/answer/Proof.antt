@@ -31,26 +31,17 @@ returns-2 c =
 slice-aggregate-file-answer : tie.Need-slice-aggregate-file-answer
 slice-aggregate-file-answer c = search needs
 
-slice-aggregate-file-answer-2 : tie.Need-slice-aggregate-file-answer-2
-slice-aggregate-file-answer-2 c = search needs
-
-slice-aggregate-file-answer-3 : tie.Need-slice-aggregate-file-answer-3
-slice-aggregate-file-answer-3 c = search needs
-
-slice-aggregate-file-answer-4 : tie.Need-slice-aggregate-file-answer-4
-slice-aggregate-file-answer-4 c = search needs
-
 file-answer-requires : tie.Need-file-answer-requires
 file-answer-requires c κs =
-    let e = c .before .before .before .before .before in
-    ((sym (e .before .is-malformed .ensures) ∙ e .if2 .left, e .before .before .if1 .left), (refl, refl, refl, refl))
+    let e = c .before .before in
+    (sym (e .before .is-malformed .ensures) ∙ e .if2 .left, refl, e .before .before .if1 .left)
 
 same-length-2 : tie.Need-same-length-2
 same-length-2 c = search needs
 
 returns-3 : tie.Need-returns-3
 returns-3 c =
-    let a = c .before .before .before .before .before .before in
+    let a = c .before .before .before in
     record { written = λ h. a .file-answer .ensures; short = λ h. absurd (omega (arith, h)) }
 
 pub answer-spec : {M : Type 1} → statement M
@@ -63,9 +54,6 @@ answer-spec =
     same-length
     returns-2
     slice-aggregate-file-answer
-    slice-aggregate-file-answer-2
-    slice-aggregate-file-answer-3
-    slice-aggregate-file-answer-4
     file-answer-requires
     same-length-2
     returns-3)

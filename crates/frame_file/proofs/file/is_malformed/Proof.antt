@@ -40,6 +40,9 @@ started c = rw (le-ltb 8202 _ (c .before .before .before .if1 .left), le-ltb _ 1
 four-bytes-requires : tie.Need-four-bytes-requires
 four-bytes-requires c κs = search needs
 
+cast-rest : tie.Need-cast-rest
+cast-rest c = search needs
+
 sub-if4 : tie.Need-sub-if4
 sub-if4 c = search needs
 
@@ -91,6 +94,7 @@ is-malformed-spec =
     shared-slice-read-if3
     returns-3
     four-bytes-requires
+    cast-rest
     sub-if4
     returns-4
     two-bytes-requires

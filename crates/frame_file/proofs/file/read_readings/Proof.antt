@@ -4,7 +4,7 @@ use mathlib.Core.Path.{refl, _∙_}
 use native.Mathlib.Omega.{arith}
 use lib.ListN.{length}
 use Rattle.lists.proofs.TableLaws.{Filled, table-none, table-turn, table-done}
-use Rattle.frame_file.specs.FrameFile.{bigEndian}
+use Rattle.frame_bytes.specs.FrameBytes.{bigEndian}
 use Rattle.frame_file.proofs.file.read_readings.Statement.{statement}
 use Rattle.frame_file.proofs.file.read_readings.Tie as tie
 

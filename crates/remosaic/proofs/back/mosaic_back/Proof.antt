@@ -4,8 +4,7 @@ use native.Mathlib.Omega.{arith}
 use borrow.Author.Needs.{needs}
 use lib.ListN.{length}
 use Rattle.bayer.specs.Planes.{threePlanes}
-use Rattle.bayer.specs.Refusal.{heldAfter}
-use Rattle.bayer.proofs.RefusalLaws.{refused-holds}
+use Rattle.bayer.proofs.RefusalLaws.{refuses, accepts}
 use Rattle.remosaic.proofs.NumberLaws.{Fits, fits}
 use Rattle.remosaic.proofs.back.mosaic_back.Statement.{statement}
 use Rattle.remosaic.proofs.back.mosaic_back.Tie as tie
@@ -14,9 +13,7 @@ mosaic-back-check-requires : tie.Need-mosaic-back-check-requires
 mosaic-back-check-requires c κs = search needs
 
 returns : tie.Need-returns
-returns c =
-    let refused : c .before .mosaic-back-check .result ≡ 0 → ⊥ = λ e. omega (arith, e, c .if1 .taken) in
-    record { number = c .before .mosaic-back-check .ensures; mosaic = sym (refused-holds _ _ _ refused) }
+returns c = refuses (c .before .mosaic-back-check .ensures) (c .if1 .taken)
 
 -- where the call is accepted
 zero : (c : tie.Else1) → c .before .mosaic-back-check .result ≡ 0
@@ -34,11 +31,10 @@ same-length : tie.Need-same-length
 same-length c = search needs
 
 returns-2 : tie.Need-returns-2
-unfolding heldAfter
 returns-2 c =
     let r = c .before .before in
     let e = r .before .before in
-    record { number = sym (zero e) ∙ e .before .mosaic-back-check .ensures; mosaic = r .rows-back .ensures }
+    accepts (sym (zero e) ∙ e .before .mosaic-back-check .ensures) (r .rows-back .ensures)
 
 pub mosaic-back-spec : {M : Type 1} → statement M
 mosaic-back-spec = tie.close (tie.spec mosaic-back-check-requires returns rows-back-requires same-length returns-2)

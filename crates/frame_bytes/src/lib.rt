@@ -1,0 +1,37 @@
+// Numbers of two and of four bytes, big-endian, and a frame description among bytes.
+ghost use mathlib.Core.Path.{_≡_};
+ghost use Prim.Native.Nat.{_+_, _≤_, _<_};
+ghost use lib.ListN.{length};
+ghost use Rattle.frame_bytes.specs.FrameBytes.{bigEndian, frameAt};
+use bayer::frame::Frame;
+
+fn wide(x: u8) -> u16
+    ensures { λ r. ⌜ (r ≡ x) × (r < 256) ⌝ }
+{
+    x as u16
+}
+
+pub fn two_bytes(bytes: &[u8], at: usize) -> u16
+    requires { ⌜ at + 2 ≤ length (now bytes) ⌝ }
+    ensures { λ r. ⌜ r ≡ bigEndian (now (bytes .entry)) at 2 ⌝ }
+{
+    let next = at + 1;
+    wide(bytes[at]) * 256 + wide(bytes[next])
+}
+
+pub fn four_bytes(bytes: &[u8], at: usize) -> u32
+    requires { ⌜ at + 4 ≤ length (now bytes) ⌝ }
+    ensures { λ r. ⌜ r ≡ bigEndian (now (bytes .entry)) at 4 ⌝ }
+{
+    two_bytes(bytes, at) as u32 * 65536 + two_bytes(bytes, at + 2) as u32
+}
+
+pub fn frame_at(bytes: &[u8], at: usize) -> Frame
+    requires { ⌜ at + 5 ≤ length (now bytes) ⌝ }
+    ensures { λ r. ⌜ r ≡ frameAt (now (bytes .entry)) at ⌝ }
+{
+    let w = two_bytes(bytes, at) as usize;
+    let h = two_bytes(bytes, at + 2) as usize;
+    let layout = at + 4;
+    Frame::new(w, h, bytes[layout])
+}
