@@ -1,4 +1,5 @@
 ghost use mathlib.Core.Path.{_≡_};
+ghost use Prim.Native.Nat.{_*_, _≤_};
 ghost use lib.ListN.{length};
 ghost use Rattle.lists.specs.Part.{rowOf};
 ghost use Rattle.bayer.specs.Refusal.{Delivers};
@@ -23,6 +24,14 @@ fn walk(state: u32, out: &mut [u16])
         old = new;
         t += 1;
     }
+}
+
+// How many steps lie before a row.
+fn steps_before(row: usize, width: usize) -> u64
+    requires { ⌜ row * width ≤ 16777216 ⌝ }
+    ensures { λ r. ⌜ r ≡ row * width ⌝ }
+{
+    (row * width) as u64
 }
 
 // The number of a walk that is lent a frame of this length.
@@ -77,7 +86,6 @@ pub fn test_row(seed: u32, width: usize, height: usize, row: usize, out: &mut [u
     if number != 0 {
         return number;
     }
-    let steps = (row * width) as u64;
-    walk(jump(seed, steps), out);
+    walk(jump(seed, steps_before(row, width)), out);
     0
 }

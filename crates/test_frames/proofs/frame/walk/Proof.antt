@@ -43,7 +43,7 @@ loop-again c =
     let l = c .before .before .before .loop in
     let state = c .before .before .before .before .before .args .state in
     let new : c .before .step .result ≡ stateAfter state (l .t + 1) = c .before .step .ensures ∙ ap next (l .inv .1) ∙ sym (iterate-next next (l .t) state) in
-    (omega arith, new, table-turn _ (l .t) _ (omega arith) (l .inv .2) (c .reading .ensures ∙ ap reading new))
+    (omega arith, new, table-turn _ (l .t) _ (omega arith) (l .inv .2) (omega (arith, c .reading .ensures, new)))
 
 same-length : tie.Need-same-length Inv-loop μ-loop
 same-length c = omega arith
