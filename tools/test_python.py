@@ -633,7 +633,7 @@ class Test(unittest.TestCase):
             self.assertEqual(self.run_seed(*words), (2, b"", None))
 
     def test_readme(self):
-        """The README's C, Python and picture examples do what it says."""
+        """The README's C, Python, picture and frame file examples do what it says."""
         with open(os.path.join(ROOT, "README.md")) as file:
             lines = [line[4:] for line in file if line.startswith("    ") or line == "\n"]
         first = lines.index("#include <stdio.h>\n")
@@ -647,9 +647,9 @@ class Test(unittest.TestCase):
                 file.write(program)
             library = os.path.join(ROOT, "target", "lib", "librokzimp.a")
             subprocess.run(["gcc", "-I", os.path.join(ROOT, "include"), "-o", binary, source, library], check=True)
-            self.assertEqual(subprocess.run([binary], capture_output=True, check=True).stdout, b"0 1600 1600 1600\n0 100\n")
+            self.assertEqual(subprocess.run([binary], capture_output=True, check=True).stdout, b"0 966\n0 31948 20416 27624\n0 1276 1276\n")
             ran = subprocess.run([sys.executable, "-c", script], capture_output=True, check=True, cwd=ROOT)
-            self.assertEqual(ran.stdout, b"True\n7 no such row\n")
+            self.assertEqual(ran.stdout, b"966 True\nTrue\n7 no such row\n")
             frame = os.path.join(ROOT, "crates", "planes", "stdin")
             subprocess.run([os.path.join(ROOT, "tools", "frame_to_png.py"), frame, out], check=True)
             with open(out + ".red", "rb") as file:
@@ -659,6 +659,9 @@ class Test(unittest.TestCase):
             subprocess.run([os.path.join(ROOT, "tools", "planes_to_frame.py"), "8", "8", "0", out, out + ".frame"], check=True)
             with open(out + ".frame", "rb") as file, open(frame, "rb") as before:
                 self.assertEqual(file.read(), before.read())
+            subprocess.run([os.path.join(ROOT, "tools", "seed_to_frame.py"), "0", "8", "8", "0", out + ".frame"], check=True)
+            with open(out + ".frame", "rb") as file:
+                self.assertEqual(file.read()[:12].hex(), "0100000085000800080003c6")
 
     def test_files_refused(self):
         flat = struct.pack(">BIHHB64H", 1, 133, 8, 8, 0, *[100] * 64)

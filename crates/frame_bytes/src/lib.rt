@@ -1,7 +1,7 @@
-// Numbers of two and of four bytes, big-endian, and a frame description among bytes.
+// Numbers of two and of four bytes, big-endian, a frame description among bytes, and the first of some bytes.
 ghost use mathlib.Core.Path.{_≡_};
-ghost use Prim.Native.Nat.{_+_, _≤_, _<_};
-ghost use lib.ListN.{length};
+ghost use Prim.Native.Nat.{_+_, _≤_, _<_, min};
+ghost use lib.ListN.{length, take};
 ghost use Rattle.frame_bytes.specs.FrameBytes.{bigEndian, frameAt};
 use bayer::frame::Frame;
 
@@ -34,4 +34,18 @@ pub fn frame_at(bytes: &[u8], at: usize) -> Frame
     let h = two_bytes(bytes, at + 2) as usize;
     let layout = at + 4;
     Frame::new(w, h, bytes[layout])
+}
+
+fn lesser(a: usize, b: usize) -> usize
+    ensures { λ r. ⌜ r ≡ min a b ⌝ }
+{
+    if a < b { a } else { b }
+}
+
+// The first n bytes, or all where there are fewer.
+pub fn first_bytes(bytes: &[u8], n: usize) -> &[u8]
+    ensures { λ r. ⌜ now r ≡ take n (now (bytes .entry)) ⌝ }
+{
+    let size = lesser(n, bytes.len());
+    &bytes[..size]
 }

@@ -9,10 +9,10 @@ use crate::file::is_malformed;
 use crate::file::read_readings;
 use bayer::frame::Frame;
 use bayer::refusal::MALFORMED_FILE;
+use frame_bytes::first_bytes;
 use frame_bytes::frame_at;
 use frame_text::put_frame;
 use plane_text::text::put_refusal_line;
-use whole::lesser;
 
 // For a file that is not malformed. The mosaic is room for the frame's readings.
 fn frame_answer(frame: Frame, bytes: &[u8], mosaic: &mut [u16], out: &mut [u8]) -> usize
@@ -54,6 +54,5 @@ pub fn answer_read(bytes: [u8; 8203], n: usize, out: &mut [u8]) -> usize
     ensures { λ r. ⌜ ((file : List ℕ) → take n bytes ≡ take (length bytes) file → Answered (output file) (now (out .entry)) (now (out .exit)) r) ⌝ }
     ensures { λ r. ⌜ r ≤ 105 ⌝ }
 {
-    let size = lesser(n, bytes.len());
-    answer(&bytes[..size], out)
+    answer(first_bytes(&bytes, n), out)
 }

@@ -10,12 +10,12 @@ ghost use Rattle.test_bytes.specs.TestBytes.{namedCases, output};
 use bayer::check::frame_check;
 use bayer::frame::Frame;
 use bayer::refusal::MALFORMED_FILE;
+use frame_bytes::first_bytes;
 use frame_bytes::four_bytes;
 use frame_bytes::frame_at;
 use frame_text::put_frame;
 use plane_text::text::put_refusal_line;
 use test_frames::frame::test_frame;
-use whole::lesser;
 
 // The number of the frame that is named: refusals 1 and 2; then 8, if it has more than 4096 readings.
 fn named_check(frame: Frame) -> u32
@@ -75,6 +75,5 @@ pub fn answer_read(bytes: [u8; 10], n: usize, out: &mut [u8]) -> usize
     ensures { λ r. ⌜ ((input : List ℕ) → take n bytes ≡ take (length bytes) input → Answered (output input) (now (out .entry)) (now (out .exit)) r) ⌝ }
     ensures { λ r. ⌜ r ≤ 105 ⌝ }
 {
-    let size = lesser(n, bytes.len());
-    answer(&bytes[..size], out)
+    answer(first_bytes(&bytes, n), out)
 }

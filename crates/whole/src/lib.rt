@@ -1,6 +1,5 @@
-// Whole-number arithmetic: the range of a sample, magnitudes, the lesser of two numbers.
+// Whole-number arithmetic: the range of a sample, magnitudes.
 ghost use mathlib.Core.Path.{_≡_};
-ghost use Prim.Native.Nat.{min};
 ghost use lib.IntN.{natAbs};
 ghost use Rattle.whole.specs.Clamp.{clamp};
 
@@ -21,10 +20,4 @@ pub fn magnitude(x: i64) -> u64
     ensures { λ r. ⌜ r ≡ natAbs x ⌝ }
 {
     if x < 0 { (-1 - x) as u64 + 1 } else { x as u64 }
-}
-
-pub fn lesser(a: usize, b: usize) -> usize
-    ensures { λ r. ⌜ r ≡ min a b ⌝ }
-{
-    if a < b { a } else { b }
 }
