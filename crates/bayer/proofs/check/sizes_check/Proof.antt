@@ -1,7 +1,5 @@
 -- `bayer::check::sizes_check` meets its contract. Assumes nothing.
-use mathlib.Core.Path.{_≡_, sym, _∙_}
 use borrow.Author.Needs.{needs}
-use Rattle.bayer.specs.Condition.{outsideSizes}
 use Rattle.bayer.specs.Refusal.{firstOf}
 use Rattle.bayer.proofs.check.sizes_check.Statement.{statement}
 use Rattle.bayer.proofs.check.sizes_check.Tie as tie

@@ -1,9 +1,8 @@
 -- `test_bytes::answer::frame_answer` meets its contract: the walk is accepted. Assumes nothing.
-use mathlib.Core.Path.{_≡_, sym, ap, _∙_}
+use mathlib.Core.Path.{_≡_, _∙_}
 use native.Mathlib.Omega.{arith}
 use borrow.Author.Needs.{needs}
 use Rattle.bayer.proofs.RefusalLaws.{delivers}
-use Rattle.frame_text.specs.FrameText.{frameText}
 use Rattle.test_frames.specs.TestFrame.{testFrame}
 use Rattle.test_frames.proofs.NumberLaws.{walk-passes}
 use Rattle.test_bytes.proofs.OutputLaws.{named-fits}

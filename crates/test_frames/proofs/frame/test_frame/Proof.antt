@@ -1,5 +1,5 @@
 -- `test_frames::frame::test_frame` meets its contract. Assumes nothing.
-use mathlib.Core.Path.{_≡_, sym, ap, _∙_}
+use mathlib.Core.Path.{sym, ap, _∙_}
 use borrow.Author.Needs.{needs}
 use Rattle.bayer.proofs.RefusalLaws.{refuses, accepts}
 use Rattle.test_frames.specs.Generator.{readingsAfter}

@@ -1,5 +1,4 @@
 -- `test_frames::jump::jump` meets its contract: each turn halves the moves that are left. Assumes nothing.
-use Prim.Native.Nat.{_/_}
 use mathlib.Core.Path.{_≡_, sym, _∙_}
 use native.Mathlib.Omega.{arith}
 use borrow.Author.Needs.{needs}

@@ -1,5 +1,4 @@
 -- `test_frames::jump::odd_move` meets its contract. Assumes nothing.
-use mathlib.Core.Path.{_∙_}
 use borrow.Author.Needs.{needs}
 use borrow.Author.Tests.{eq-eqb, ne-eqb}
 use Rattle.test_frames.proofs.jump.odd_move.Statement.{statement}
