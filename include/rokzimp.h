@@ -23,8 +23,8 @@
  * Samples are in sixteenths of a reading, 0 to 65520. The observed sample of a pixel is the one in the plane of its filter's
  * colour. Mosaics and planes are stored row by row, without gaps.
  *
- * A number that a call returns is 0, or one of the refusals (but for rokzimp_jump, and where a start, a length or a plane is said). Of several that hold, the one that is tested first is returned.
- * A refused call changes no sample. */
+ * What a strip, a mosaic back, a test frame, its row and the checks return is 0, or the number of a refusal. Of several that hold, the
+ * one that is tested first is returned. A refused call changes no sample. */
 #ifndef ROKZIMP_H
 #define ROKZIMP_H
 
@@ -98,7 +98,7 @@ uint32_t rokzimp_test_frame(uint32_t seed, size_t width, size_t height, uint16_t
  * long. Returns 0 and every reading of the row is written; or the refusal, and none is. */
 uint32_t rokzimp_test_row(uint32_t seed, size_t width, size_t height, size_t row, uint16_t *out, size_t out_count);
 
-/* The state after so many steps, any 64-bit number of them, in 64 doublings at most. */
+/* The state after so many steps, any 64-bit number of them. (It takes 64 doublings at most: its loop is proved to end after 64 turns.) */
 uint32_t rokzimp_jump(uint32_t state, uint64_t steps);
 
 /* A row view: row `row` of a plane, as the part of it that starts at sample rokzimp_row_view_start and is

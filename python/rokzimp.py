@@ -8,7 +8,7 @@ Mosaics and planes are lent as they are, and nothing is copied: a numpy array of
 stored row by row without gaps. What is written has to be writable; what is only read need not be.
 
 A refusal is raised as Refused, with the papers' number and word, and no lent sample is changed. A number too large for the
-library, or below 0, is refused as the largest number would be. Calls let other Python threads run; see include/rokzimp.h for what
+library, or below 0, is refused as the largest number would be; where no refusal is of it, as of a seed, it raises ValueError. Calls let other Python threads run; see include/rokzimp.h for what
 threads may do at the same time.
 """
 import array
@@ -24,7 +24,7 @@ WORDS = {
     2: ("unknown layout", "layout above 3"),
     3: ("off the frame", "no rows, or a row past the frame"),
     4: ("short halo", "the piece of the mosaic has not the exact length"),
-    5: ("plane misfit", "one of the planes, or the mosaic to be written, is not rows * width long; or a test frame or its row is not as long as its size"),
+    5: ("plane misfit", "one of the planes, or the mosaic to be written, is not rows * width long; or a test frame is not width * height long, or its row not width"),
     6: ("over range", "some reading of the piece is above 4095"),
     7: ("no such row", "a plane lacks the row, or the row is past the frame"),
     8: ("torn file", "the file is not what its first ten bytes say"),
@@ -251,7 +251,7 @@ def mosaic_back(width, height, layout, first_row, rows, red, green, blue, mosaic
 
 def test_frame(seed, width, height, frame=None):
     """Writes the readings of the test frame of a 32-bit seed into a frame of height * width readings, row by row. One that is not lent
-    is made, as array('H'). Returns the frame."""
+    is made, as array('H'). Returns the frame. A seed that has not 32 bits raises ValueError."""
     seed, width, height = _exact(seed, 32), _size(width), _size(height)
     if frame is None:
         frame = _made(width, height)
@@ -262,7 +262,7 @@ def test_frame(seed, width, height, frame=None):
 
 def test_row(seed, width, height, row, out=None):
     """Writes row `row` of that frame, width readings, without making the others. One that is not lent is made, as array('H').
-    Returns the row."""
+    Returns the row. A seed that has not 32 bits raises ValueError."""
     seed, width = _exact(seed, 32), _size(width)
     if out is None:
         out = _made(width, 1)
@@ -271,8 +271,12 @@ def test_row(seed, width, height, row, out=None):
     return out
 
 
+test_frame.__test__ = test_row.__test__ = False  # by their names a test runner would take them for tests
+
+
 def jump(state, steps):
-    """The generator's state after so many steps from a 32-bit state, any 64-bit number of them. A reading is a new state // 2 ** 20."""
+    """The generator's state after so many steps from a 32-bit state, any 64-bit number of them; others
+    raise ValueError. A reading is a new state // 2 ** 20."""
     return _library.rokzimp_jump(_exact(state, 32), _exact(steps, 64))
 
 

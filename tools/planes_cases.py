@@ -1,8 +1,9 @@
 #!/usr/bin/env python3
 """planes_cases.py SEED [DIRECTORY]: writes crates/planes_cases/stdin (SEED 1), inputs of the two small programs, each behind a byte
 that says of which (0: frame files, 1: test frames) and a two-byte length, and crates/planes_cases/stdout, what
-reference/reference.py's program prints for each. Without a DIRECTORY it also writes stdin and stdout of crates/planes_long, a file
-that is a byte too long, of crates/test_planes, seed 0, 8 by 8, layout 0, and of crates/test_planes_long, the same and a tenth byte."""
+reference/reference.py's program prints for each. Without a DIRECTORY it also writes stdin and stdout of crates/planes_long and
+planes_short, a file that is a byte too long and one that is a byte too short, and of crates/test_planes, test_planes_long and
+test_planes_short, seed 0, 8 by 8, layout 0, the same and a tenth byte, and the same without the last."""
 import os
 import random
 import sys
@@ -141,8 +142,10 @@ def main():
     write(sys.argv[2] if len(sys.argv) > 2 else os.path.join(ROOT, 'crates', 'planes_cases'), among, ''.join(printed))
     if len(sys.argv) == 2:
         one('planes_long', reference.program, too_long())
+        one('planes_short', reference.program, frame_file(8, 8, 0, [100] * 64)[:-1])
         one('test_planes', reference.generator_program, name(0, 8, 8, 0))
         one('test_planes_long', reference.generator_program, name(0, 8, 8, 0) + b'\0')
+        one('test_planes_short', reference.generator_program, name(0, 8, 8, 0)[:-1])
     print('%d files, %d of test frames' % tuple(sum(kind == k for kind, _ in made) for k in (0, 1)))
 
 

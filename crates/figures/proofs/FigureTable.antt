@@ -22,7 +22,7 @@ use Rattle.gbtf.specs.Weights.{scale}
 use Rattle.green_rule.specs.Greens.{greens}
 use Rattle.demosaic.specs.Fill.{fill}
 use Rattle.demosaic.specs.Sample.{neighbours, otherFrom, sample}
-use Rattle.test_frames.specs.Generator.{next, iterate, readingsAfter}
+use Rattle.test_frames.specs.Generator.{affine, iterate, readingsAfter}
 use Rattle.figures.specs.Rule.{planeIs}
 use Rattle.figures.specs.Figures.{adds, frame8, readings8, holds, figures}
 use Rattle.figures.proofs.Tables.{_and_}
@@ -68,7 +68,7 @@ greens-4095 = tt
 -- ---- the table
 
 pub figures-hold : Every holds figures
-unfolding colours colourAt mirror rowOf table joined difference fusion fill neighbours otherFrom next iterate readingsAfter
+unfolding colours colourAt mirror rowOf table joined difference fusion fill neighbours otherFrom affine iterate readingsAfter
 figures-hold =
     tt and tt
     and tt
@@ -82,5 +82,5 @@ figures-hold =
     and tt
     and refl and refl and refl and refl and refl
     and refl and refl
-    and tt
+    and refl and refl and refl
     and tt

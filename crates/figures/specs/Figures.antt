@@ -1,11 +1,11 @@
--- Document 01's bench figures marked M, in its order, the printed hundredths, and the figures that the requests print, as a table of claims about the written rules. proofs/FigureTable.antt has the theorem. Assumes nothing.
+-- Document 01's bench figures marked M, in its order, the printed hundredths, the figures that the requests print, and readings of test frames that the other implementation worked out, as a table of claims about the written rules. proofs/FigureTable.antt has the theorem. Assumes nothing.
 use Prim.Native.Nat.{ℕ, zero, suc, _*_}
 use mathlib.Core.Path.{_≡_}
 use mathlib.Core.Bool.{Bool, true, false, _&&_}
 use mathlib.Core.List.{List, [], _∷_, _++_}
 use lib.Dec.{T, eqb}
 use lib.IntN.{ℤ, pos, negsuc, _+ℤ_}
-use lib.ListN.{getD}
+use lib.ListN.{length}
 use Rattle.lists.specs.Part.{part}
 use Rattle.bayer.specs.declared.colour.Colour.{Colour}
 use Rattle.bayer.specs.declared.colour.Colour.the-variants.{Red, Green, Blue}
@@ -22,7 +22,7 @@ use Rattle.gbtf.specs.Weights.{scale}
 use Rattle.demosaic.specs.Fill.{fill}
 use Rattle.demosaic.specs.Exact.{printedError}
 use Rattle.remosaic.specs.MosaicBack.{notOfCamera, mosaicRows}
-use Rattle.test_frames.specs.TestFrame.{testFrame}
+use Rattle.test_frames.specs.Generator.{readingsAfter}
 use Rattle.figures.specs.Rule.{PlanesAre}
 
 pub data Claim : Type 0 where
@@ -44,8 +44,8 @@ pub data Claim : Type 0 where
   refusedIs : (sample : ℕ) → Bool → Claim
   -- rows a to a + n − 1 of the 8 by 8 frame, layout 0, whose red, green and blue readings are these, from planes that hold R, G and B everywhere
   mosaicIs : (a n : ℕ) (R G B : ℕ) → (red green blue : ℕ) → Claim
-  -- the first reading of the test frame of a seed
-  firstReadingIs : (seed : ℕ) → ℕ → Claim
+  -- the first readings from a seed
+  readingsFrom : (seed : ℕ) → List ℕ → Claim
 
 abbrev pub equal : ℤ → ℤ → Bool
 equal (pos m) (pos n) = eqb m n
@@ -82,7 +82,7 @@ holds (numberIs r n) = T (eqb (number r) n)
 holds (refusedIs sample b) = notOfCamera sample ≡ b
 holds (mosaicIs a n R G B red green blue) =
     mosaicRows frame8 a n (threePlanes (repeated (n * 8) (R ∷ [])) (repeated (n * 8) (G ∷ [])) (repeated (n * 8) (B ∷ []))) ≡ part (a * 8) (n * 8) (readings8 red green blue)
-holds (firstReadingIs seed n) = T (eqb (getD (testFrame seed 8 8) 0 0) n)
+holds (readingsFrom seed l) = readingsAfter seed (length l) ≡ l
 
 abbrev pub figures : List Claim
 figures =
@@ -98,5 +98,5 @@ figures =
     ∷ numberIs notCameraPlanes 9
     ∷ refusedIs 16 false ∷ refusedIs 17 true ∷ refusedIs 65520 false ∷ refusedIs 65521 true ∷ refusedIs 65536 true
     ∷ mosaicIs 0 8 6400 3200 1600 400 200 100 ∷ mosaicIs 3 2 65520 0 0 4095 0 0
-    ∷ firstReadingIs 0 966
+    ∷ readingsFrom 0 (966 ∷ []) ∷ readingsFrom 0 (966 ∷ 1141 ∷ 3356 ∷ 2735 ∷ 1573 ∷ 2546 ∷ 1407 ∷ 2621 ∷ []) ∷ readingsFrom 4294967295 (965 ∷ 769 ∷ 552 ∷ 2583 ∷ [])
     ∷ []

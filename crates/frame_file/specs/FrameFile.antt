@@ -9,8 +9,7 @@ use Rattle.frame_bytes.specs.FrameBytes.{bigEndian, frameAt}
 use Rattle.bayer.specs.declared.frame.Frame.{Frame}
 use Rattle.bayer.specs.Condition.{frameCases, rangeCases}
 use Rattle.bayer.specs.Refusal.{_when_, malformedFile, firstOf}
-use Rattle.demosaic.specs.Sample.{framePlane}
-use Rattle.plane_text.specs.Text.{lines, printed}
+use Rattle.frame_text.specs.FrameText.{frameText}
 
 -- a version byte; a four-byte length of all that follows it; W and H, two bytes each; one layout byte; W × H readings, two bytes each
 abbrev pub version : (bytes : List ℕ) → ℕ
@@ -40,4 +39,4 @@ fileNumber bytes = firstOf ((malformedFile when malformed bytes) ∷ (frameCases
 
 -- WHAT THE PROGRAM PRINTS, for any bytes
 unfoldable pub output : (bytes : List ℕ) → List ℕ
-output bytes = printed (fileNumber bytes) (lines (framePlane (frameOf bytes) (readings bytes)))
+output bytes = frameText (fileNumber bytes) (frameOf bytes) (readings bytes)

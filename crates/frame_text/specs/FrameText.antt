@@ -1,4 +1,4 @@
--- What a program prints of a frame by its readings. Assumes nothing.
+-- What a program prints of a frame. Assumes nothing.
 use Prim.Native.Nat.{ℕ}
 use mathlib.Core.List.{List, _++_}
 use Rattle.bayer.specs.declared.frame.Frame.{Frame}
@@ -7,6 +7,10 @@ use Rattle.bayer.specs.Refusal.{firstOf}
 use Rattle.demosaic.specs.Sample.{framePlane}
 use Rattle.plane_text.specs.Text.{lines, printed}
 
--- the lines of its planes; or the line of a refusal, 1, 2 or 6
-unfoldable pub frameText : Frame → (readings : List ℕ) → List ℕ
-frameText f readings = printed (firstOf (frameCases f ++ rangeCases readings)) (lines (framePlane f readings))
+-- the lines of its planes, by its readings; or, of another number than 0, the line of that refusal
+unfoldable pub frameText : (number : ℕ) → Frame → (readings : List ℕ) → List ℕ
+frameText number f readings = printed number (lines (framePlane f readings))
+
+-- the number of a strip call over the whole frame, which is lent as many readings as it has: 1, 2; 6
+abbrev pub wholeNumber : Frame → (readings : List ℕ) → ℕ
+wholeNumber f readings = firstOf (frameCases f ++ rangeCases readings)

@@ -3,7 +3,7 @@ ghost use mathlib.Core.Path.{_≡_};
 ghost use Prim.Native.Nat.{_*_, _≤_};
 ghost use lib.ListN.{length};
 ghost use Rattle.plane_text.specs.Written.{Written};
-ghost use Rattle.frame_text.specs.FrameText.{frameText};
+ghost use Rattle.frame_text.specs.FrameText.{frameText, wholeNumber};
 use bayer::frame::Frame;
 use plane_text::lines::put_lines;
 use plane_text::text::put_refusal_line;
@@ -20,7 +20,7 @@ fn put_planes(
 ) -> usize
     requires { ⌜ (length (now mosaic) ≡ frame .width * frame .height) × (length (now mosaic) ≤ 4096) × (105 ≤ length (now out)) ⌝ }
     requires { ⌜ (length (now red) ≡ length (now mosaic)) × (length (now green) ≡ length (now mosaic)) × (length (now blue) ≡ length (now mosaic)) ⌝ }
-    ensures { λ r. ⌜ Written (frameText frame (now (mosaic .entry))) 0 (now (out .entry)) (now (out .exit)) r × (r ≤ 105) ⌝ }
+    ensures { λ r. ⌜ Written (frameText (wholeNumber frame (now (mosaic .entry))) frame (now (mosaic .entry))) 0 (now (out .entry)) (now (out .exit)) r × (r ≤ 105) ⌝ }
 {
     let number = strip(frame, 0, frame.height, mosaic, red, green, blue);
     if number != 0 {
@@ -40,7 +40,7 @@ fn put_frame_in(
 ) -> usize
     requires { ⌜ (length (now mosaic) ≡ frame .width * frame .height) × (length (now mosaic) ≤ 4096) × (105 ≤ length (now out)) ⌝ }
     requires { ⌜ (length (now red) ≡ 4096) × (length (now green) ≡ 4096) × (length (now blue) ≡ 4096) ⌝ }
-    ensures { λ r. ⌜ Written (frameText frame (now (mosaic .entry))) 0 (now (out .entry)) (now (out .exit)) r × (r ≤ 105) ⌝ }
+    ensures { λ r. ⌜ Written (frameText (wholeNumber frame (now (mosaic .entry))) frame (now (mosaic .entry))) 0 (now (out .entry)) (now (out .exit)) r × (r ≤ 105) ⌝ }
 {
     let size = mosaic.len();
     put_planes(
@@ -56,7 +56,7 @@ fn put_frame_in(
 // Puts the text at the start of `out`, and answers how many bytes it has.
 pub fn put_frame(frame: Frame, mosaic: &[u16], out: &mut [u8]) -> usize
     requires { ⌜ (length (now mosaic) ≡ frame .width * frame .height) × (length (now mosaic) ≤ 4096) × (105 ≤ length (now out)) ⌝ }
-    ensures { λ r. ⌜ Written (frameText frame (now (mosaic .entry))) 0 (now (out .entry)) (now (out .exit)) r × (r ≤ 105) ⌝ }
+    ensures { λ r. ⌜ Written (frameText (wholeNumber frame (now (mosaic .entry))) frame (now (mosaic .entry))) 0 (now (out .entry)) (now (out .exit)) r × (r ≤ 105) ⌝ }
 {
     let mut red = [0u16; 4096];
     let mut green = [0u16; 4096];

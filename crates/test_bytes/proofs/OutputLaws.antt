@@ -12,7 +12,8 @@ use Rattle.bayer.proofs.RefusalLaws.{off, off-append, on-append}
 use Rattle.bayer.proofs.ConditionLaws.{readings-pass}
 use Rattle.plane_text.specs.Text.{refusalLine, printed}
 use Rattle.plane_text.proofs.LineLaws.{refused-line}
-use Rattle.frame_text.specs.FrameText.{frameText}
+use Rattle.frame_text.specs.FrameText.{frameText, wholeNumber}
+use Rattle.test_frames.specs.TestFrame.{testFrame}
 use Rattle.test_frames.proofs.FrameLaws.{readings-range}
 use Rattle.test_bytes.specs.TestBytes.{frameOf, readings, largeCases, namedCases, bytesNumber, output}
 
@@ -22,8 +23,12 @@ named-fits f e =
     let o = off-append (frameCases f) (largeCases f) e in
     (off-append (sizeCases (f .width) (f .height)) (layoutCases (f .layout)) (o .0) .0, ltb-false 4096 (f .width * f .height) (off (largeCases f) (o .1) .0))
 
+-- and a strip call over it is accepted, whatever the seed
+pub strip-accepts : (f : Frame) (seed : ℕ) → firstOf (namedCases f) ≡ 0 → wholeNumber f (testFrame seed (f .width) (f .height)) ≡ 0
+strip-accepts f seed e = on-append (frameCases f) (rangeCases _) (off-append (frameCases f) (largeCases f) e .0) (readings-pass _ (readings-range seed (f .width * f .height)))
+
 pub not-nine : (bytes : List ℕ) → (length bytes ≡ 9 → ⊥) → output bytes ≡ refusalLine 8
-unfolding output printed bytesNumber firstOf
+unfolding output frameText printed bytesNumber firstOf
 not-nine bytes h = rw (ne-eqb (length bytes) 9 h)
 
 pub long-line : (bytes : List ℕ) → 9 < length bytes → output bytes ≡ refusalLine 8
@@ -35,14 +40,9 @@ module _ (bytes : List ℕ) (nine : length bytes ≡ 9) where
   nine-number = rw (eq-eqb (length bytes) 9 nine)
 
   pub refused : {number : ℕ} → number ≡ firstOf (namedCases (frameOf bytes)) → (number ≡ 0 → ⊥) → output bytes ≡ refusalLine number
-  unfolding output
+  unfolding output frameText
   refused {number} e h = rw (nine-number ∙ sym e) (refused-line number _ h)
 
-  -- the strip call over the frame is accepted too: its readings are in range
-  pub frame-lines : firstOf (namedCases (frameOf bytes)) ≡ 0 → output bytes ≡ frameText (frameOf bytes) (readings bytes)
-  unfolding output frameText
-  frame-lines e =
-      let f = frameOf bytes in
-      let frame = off-append (frameCases f) (largeCases f) e .0 in
-      let strip = on-append (frameCases f) (rangeCases (readings bytes)) frame (readings-pass (readings bytes) (readings-range _ _)) in
-      rw (nine-number ∙ e, strip)
+  pub frame-lines : firstOf (namedCases (frameOf bytes)) ≡ 0 → output bytes ≡ frameText 0 (frameOf bytes) (readings bytes)
+  unfolding output
+  frame-lines e = rw (nine-number ∙ e)

@@ -8,8 +8,7 @@ use Rattle.frame_bytes.specs.FrameBytes.{bigEndian, frameAt}
 use Rattle.bayer.specs.declared.frame.Frame.{Frame}
 use Rattle.bayer.specs.Condition.{frameCases}
 use Rattle.bayer.specs.Refusal.{Case, _when_, malformedFile, firstOf}
-use Rattle.demosaic.specs.Sample.{framePlane}
-use Rattle.plane_text.specs.Text.{lines, printed}
+use Rattle.frame_text.specs.FrameText.{frameText}
 use Rattle.test_frames.specs.TestFrame.{testFrame}
 
 -- seed, four bytes; W and H, two bytes each; layout, one
@@ -36,4 +35,4 @@ bytesNumber bytes = firstOf ((malformedFile when not (eqb (length bytes) 9)) ∷
 
 -- WHAT THE PROGRAM PRINTS, for any bytes
 unfoldable pub output : (bytes : List ℕ) → List ℕ
-output bytes = printed (bytesNumber bytes) (lines (framePlane (frameOf bytes) (readings bytes)))
+output bytes = frameText (bytesNumber bytes) (frameOf bytes) (readings bytes)

@@ -6,14 +6,14 @@ use native.Mathlib.Omega.{arith}
 use Rattle.lists.specs.Part.{part, rowOf}
 use Rattle.lists.specs.Bound.{AllAtMost}
 use Rattle.lists.proofs.TableLaws.{table-part, table-same, table-all}
-use Rattle.test_frames.specs.Generator.{next, stateAfter, reading, readingsAfter}
+use Rattle.test_frames.specs.Generator.{affine, next, stateAfter, reading, readingsAfter}
 use Rattle.test_frames.specs.TestFrame.{testFrame}
 use Rattle.test_frames.specs.Jump.{jumped}
 use Rattle.test_frames.proofs.IterateLaws.{iterate-next, iterate-add}
 use Rattle.test_frames.proofs.JumpLaws.{jump-is}
 
 next-state : (state : ℕ) → next state < 4294967296
-unfolding next
+unfolding affine
 next-state state = omega arith
 
 -- every reading is at most 4095

@@ -1,13 +1,13 @@
--- Two moves by a x + c, modulo 2^32, are one, so that a jump halves their number; and it comes to as many single steps. Assumes nothing.
-use Prim.Native.Nat.{ℕ, zero, suc, _+_, _*_, _/_, _%_, _^_, _<_}
+-- Two moves by a x + c, modulo 2^32, are one, so that a jump halves their number; it comes to as many single steps, in at most 64 turns. Assumes nothing.
+use Prim.Native.Nat.{ℕ, zero, suc, _+_, _*_, _/_, _%_, _^_, _≤_, _<_}
 use mathlib.Core.Path.{_≡_, refl, sym, ap, _∙_}
 use mathlib.Core.Bool.{cond}
 use native.Mathlib.Nat.{mod-add-div, add-mul-mod-self-left, add-mod-mod, mul-add, mul-left-comm, mul-comm, mul-assoc}
 use native.Mathlib.Omega.{arith}
 use lib.Dec.{eqb}
 use lib.Pow.{pow-add}
-use Rattle.test_frames.specs.Generator.{next, iterate, stateAfter}
-use Rattle.test_frames.specs.Jump.{affine, oddMove, moved, jumped}
+use Rattle.test_frames.specs.Generator.{affine, multiplier, increment, iterate, stateAfter}
+use Rattle.test_frames.specs.Jump.{oddMove, moved, jumped}
 use Rattle.test_frames.proofs.IterateLaws.{iterate-even, iterate-odd, iterate-same}
 
 -- a factor may be taken modulo m
@@ -48,13 +48,33 @@ moved-is zero a c zero x h = refl
 moved-is zero a c (suc r) x h = absurd (let z : ⊥ = omega arith in z)
 moved-is (suc k) a c r x h = moved-is k (affine a 0 a) (affine a c c) (r / 2) (oddMove r a c x) (omega (arith, h, pow-add 2 1 k)) ∙ sym (halved a c r x)
 
-pub step-is : (x : ℕ) → next x ≡ affine 1664525 1013904223 x
-unfolding next affine
-step-is x = refl
-
-pub steps-are : (state r : ℕ) → stateAfter state r ≡ iterate (affine 1664525 1013904223) r state
-steps-are state r = iterate-same _ _ step-is r state
-
 -- THE JUMP of r steps, for every 64-bit r, is r single steps
 pub jump-is : (state r : ℕ) → r < 2 ^ 64 → jumped state r ≡ stateAfter state r
-jump-is state r h = moved-is 64 1664525 1013904223 r state h ∙ sym (steps-are state r)
+jump-is state r h = moved-is 64 multiplier increment r state h
+
+-- ---- how many turns the loop of a jump has
+
+-- how often r is halved until it is 0, counted up to k
+unfoldable pub turns : (k r : ℕ) → ℕ
+turns zero r = 0
+turns (suc k) zero = 0
+turns (suc k) (suc r) = suc (turns k (suc r / 2))
+
+pub turns-most : (k r : ℕ) → turns k r ≤ k
+unfolding turns
+turns-most zero r = omega arith
+turns-most (suc k) zero = omega arith
+turns-most (suc k) (suc r) = omega (arith, turns-most k (suc r / 2))
+
+turns-enough : (k r : ℕ) → r < 2 ^ k → turns (suc k) r ≡ turns k r
+unfolding turns
+turns-enough zero zero h = refl
+turns-enough zero (suc r) h = absurd (let z : ⊥ = omega arith in z)
+turns-enough (suc k) zero h = refl
+turns-enough (suc k) (suc r) h = ap suc (turns-enough k (suc r / 2) (omega (arith, h, pow-add 2 1 k)))
+
+-- a turn leaves fewer
+pub turns-less : (k r : ℕ) → r < 2 ^ suc k → 0 < r → turns (suc k) (r / 2) < turns (suc k) r
+unfolding turns
+turns-less k zero h p = absurd (let z : ⊥ = omega arith in z)
+turns-less k (suc r) h p = omega (arith, turns-enough k (suc r / 2) (omega (arith, h, pow-add 2 1 k)))

@@ -1,4 +1,4 @@
--- What holds where a call is accepted, and where the walk is. Assumes nothing.
+-- What holds where a call is accepted, and that a walk which fits is. Assumes nothing.
 use Prim.Native.Nat.{ℕ, _*_, _≤_, _<_}
 use mathlib.Core.Path.{_≡_}
 use mathlib.Core.Bool.{not}

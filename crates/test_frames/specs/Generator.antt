@@ -3,9 +3,19 @@ use Prim.Native.Nat.{ℕ, zero, suc, _+_, _*_, _/_, _%_}
 use mathlib.Core.List.{List}
 use Rattle.lists.specs.Table.{table}
 
+-- a x + c, modulo 2^32
+unfoldable pub affine : (a c x : ℕ) → ℕ
+affine a c x = (a * x + c) % 4294967296
+
+abbrev pub multiplier : ℕ
+multiplier = 1664525
+
+abbrev pub increment : ℕ
+increment = 1013904223
+
 -- the next state; a state is a 32-bit number
-unfoldable pub next : (state : ℕ) → ℕ
-next state = (1664525 * state + 1013904223) % 4294967296
+abbrev pub next : (state : ℕ) → ℕ
+next state = affine multiplier increment state
 
 -- f, r times over
 unfoldable pub iterate : (f : ℕ → ℕ) (r x : ℕ) → ℕ

@@ -78,7 +78,7 @@ pub fn test_frame(seed: u32, width: usize, height: usize, frame: &mut [u16]) -> 
     0
 }
 
-// One row of that frame, by a jump to its first reading, and answers 0. Or it answers the number of a refusal, and the lent row is as it was.
+// The same for one row of that frame, in a lent row: a jump leads to the state before its first reading, so that no other row is made.
 pub fn test_row(seed: u32, width: usize, height: usize, row: usize, out: &mut [u16]) -> u32
     ensures { λ r. ⌜ Delivers (rowNumber width height row (length (now (out .entry)))) (rowOf width row (testFrame seed width height)) (now (out .entry)) r (now (out .exit)) ⌝ }
 {

@@ -1,6 +1,9 @@
 ghost use mathlib.Core.Path.{_≡_};
-ghost use Rattle.test_frames.specs.Generator.{next, reading};
-ghost use Rattle.test_frames.specs.Jump.{affine};
+ghost use Rattle.test_frames.specs.Generator.{affine, next, reading};
+
+pub const MULTIPLIER: u32 = 1664525;
+
+pub const INCREMENT: u32 = 1013904223;
 
 fn wide(x: u32) -> u64
     ensures { λ r. ⌜ r ≡ x ⌝ }
@@ -19,7 +22,7 @@ pub fn affine(a: u32, c: u32, x: u32) -> u32
 pub fn step(state: u32) -> u32
     ensures { λ r. ⌜ r ≡ next state ⌝ }
 {
-    affine(1664525, 1013904223, state)
+    affine(MULTIPLIER, INCREMENT, state)
 }
 
 // The reading of a new state.

@@ -1,6 +1,8 @@
 ghost use mathlib.Core.Path.{_≡_};
 ghost use Rattle.test_frames.specs.Generator.{stateAfter};
 ghost use Rattle.test_frames.specs.Jump.{oddMove, jumped};
+use crate::generator::INCREMENT;
+use crate::generator::MULTIPLIER;
 use crate::generator::affine;
 
 // x, moved on by a x + c where r is odd.
@@ -18,8 +20,8 @@ pub fn jump(state: u32, r: u64) -> u32
     ensures { λ z. ⌜ (z ≡ stateAfter state r) × (z ≡ jumped state r) ⌝ }
 {
     let mut x = state;
-    let mut a = 1664525;
-    let mut c = 1013904223;
+    let mut a = MULTIPLIER;
+    let mut c = INCREMENT;
     let mut left = r;
     while left != 0 {
         x = odd_move(left, a, c, x);

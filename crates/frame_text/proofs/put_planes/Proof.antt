@@ -4,7 +4,7 @@ use native.Mathlib.Omega.{arith}
 use borrow.Author.Needs.{needs}
 use Rattle.bayer.specs.Planes.{Planes, threePlanes}
 use Rattle.plane_text.specs.Text.{lines, refusalLine}
-use Rattle.frame_text.specs.FrameText.{frameText}
+use Rattle.frame_text.specs.FrameText.{frameText, wholeNumber}
 use Rattle.frame_text.proofs.FrameTextLaws.{refused, delivered}
 use Rattle.frame_text.proofs.put_planes.Statement.{statement}
 use Rattle.frame_text.proofs.put_planes.Tie as tie
@@ -17,10 +17,10 @@ module _ (c : tie.After-strip) where
   abbrev after : Planes
   after = let l = c .strip .last .1 .1 .1 .1 in threePlanes (l .0) (l .1 .0) (l .1 .1 .0)
 
-  refused-here : (c .strip .result ≡ 0 → ⊥) → frameText (s .args .frame) (s .args .mosaic .now) ≡ refusalLine (c .strip .result)
+  refused-here : (c .strip .result ≡ 0 → ⊥) → frameText (wholeNumber (s .args .frame) (s .args .mosaic .now)) (s .args .frame) (s .args .mosaic .now) ≡ refusalLine (c .strip .result)
   refused-here = refused (s .args .frame) (s .args .mosaic .now) (s .pre .0 .0) (c .strip .ensures) (s .pre .1 .0) (s .pre .1 .1) (s .pre .1 .2)
 
-  delivered-here : c .strip .result ≡ 0 → frameText (s .args .frame) (s .args .mosaic .now) ≡ lines after
+  delivered-here : c .strip .result ≡ 0 → frameText (wholeNumber (s .args .frame) (s .args .mosaic .now)) (s .args .frame) (s .args .mosaic .now) ≡ lines after
   delivered-here = delivered (s .args .frame) (s .args .mosaic .now) (s .pre .0 .0) (c .strip .ensures) (s .pre .1 .0) (s .pre .1 .1) (s .pre .1 .2)
 
 abbrev called : tie.After-slice-known7 → tie.After-strip

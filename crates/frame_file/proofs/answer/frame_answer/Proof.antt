@@ -4,7 +4,7 @@ use mathlib.Core.Path.{_≡_, sym, ap, ap₂, _∙_}
 use native.Mathlib.Omega.{arith}
 use borrow.Author.Needs.{needs}
 use Rattle.bayer.specs.declared.frame.Frame.{Frame}
-use Rattle.frame_text.specs.FrameText.{frameText}
+use Rattle.frame_text.specs.FrameText.{frameText, wholeNumber}
 use Rattle.frame_file.specs.FrameFile.{frameOf, output}
 use Rattle.frame_file.proofs.FileLaws.{sized, readings-are}
 use Rattle.frame_file.proofs.AnswerLaws.{frame-lines}
@@ -18,10 +18,10 @@ abbrev start : tie.After-read-readings → tie.Start
 start c = c .before .before .before .before .before
 
 -- what the program prints of the file is what is printed of its frame, by the readings that were read
-printed-is : (c : tie.After-read-readings) → let a = start c .args in output (a .bytes .now) ≡ frameText (a .frame) (c .read-readings .last .1 .0)
+printed-is : (c : tie.After-read-readings) → let a = start c .args in output (a .bytes .now) ≡ frameText (wholeNumber (a .frame) (c .read-readings .last .1 .0)) (a .frame) (c .read-readings .last .1 .0)
 printed-is c =
     let s = start c in
-    frame-lines (s .args .bytes .now) (s .pre .0) ∙ sym (ap₂ frameText (s .pre .1) (c .read-readings .ensures ∙ readings-are (s .args .bytes .now) (s .pre .2 ∙ size s)))
+    frame-lines (s .args .bytes .now) (s .pre .0) ∙ sym (ap₂ (λ (f : Frame) readings. frameText (wholeNumber f readings) f readings) (s .pre .1) (c .read-readings .ensures ∙ readings-are (s .args .bytes .now) (s .pre .2 ∙ size s)))
 
 read-readings-requires : tie.Need-read-readings-requires
 read-readings-requires c κs = let s = c .before .before .before .before in omega (arith, size s, s .pre .2, sized (s .args .bytes .now) (s .pre .0))

@@ -25,12 +25,12 @@ fits c = named-fits (c .before .before .frame-at .result) (sym (c .before .named
 printed-is : (c : tie.After-four-bytes) →
     let n = c .before .before .before in
     let f = n .before .frame-at .result in
-    output (start n .args .bytes .now) ≡ frameText f (testFrame (c .four-bytes .result) (f .width) (f .height))
+    output (start n .args .bytes .now) ≡ frameText 0 f (testFrame (c .four-bytes .result) (f .width) (f .height))
 printed-is c =
     let n = c .before .before .before in
     let s = start n in
     frame-lines (s .args .bytes .now) (s .pre .0) (sym (numbered n) ∙ c .before .before .if1 .left)
-    ∙ sym (ap₂ (λ (f : Frame) seed. frameText f (testFrame seed (f .width) (f .height))) (n .before .frame-at .ensures) (c .four-bytes .ensures))
+    ∙ sym (ap₂ (λ (f : Frame) seed. frameText 0 f (testFrame seed (f .width) (f .height))) (n .before .frame-at .ensures) (c .four-bytes .ensures))
 
 frame-at-requires : tie.Need-frame-at-requires
 frame-at-requires c κs = search needs

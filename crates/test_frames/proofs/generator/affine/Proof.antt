@@ -3,7 +3,7 @@ use Prim.Native.Nat.{ℕ, _*_, _^_, _≤_, _<_}
 use native.Mathlib.Nat.{mul-le-mul}
 use native.Mathlib.Omega.{arith}
 use borrow.Author.Needs.{needs}
-use Rattle.test_frames.specs.Jump.{affine}
+use Rattle.test_frames.specs.Generator.{affine}
 use Rattle.test_frames.proofs.generator.affine.Statement.{statement}
 use Rattle.test_frames.proofs.generator.affine.Tie as tie
 
