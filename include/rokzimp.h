@@ -23,8 +23,8 @@
  * Samples are in sixteenths of a reading, 0 to 65520. The observed sample of a pixel is the one in the plane of its filter's
  * colour. Mosaics and planes are stored row by row, without gaps.
  *
- * What a strip, a mosaic back, a test frame, its row and the checks return is 0, or the number of a refusal. Of several that hold, the
- * one that is tested first is returned. A refused call changes no sample. */
+ * What a strip, a mosaic back, a test frame, its row and the checks return is 0, or the number of a refusal. Of several that
+ * hold, the one that is tested first is returned. A refused call changes no sample. */
 #ifndef ROKZIMP_H
 #define ROKZIMP_H
 
@@ -39,13 +39,14 @@ enum {
     ROKZIMP_OK = 0,
     ROKZIMP_OFF_SIZE = 1,       /* "off size": width or height outside 8 to 4096 */
     ROKZIMP_UNKNOWN_LAYOUT = 2, /* "unknown layout": layout above 3 */
-    ROKZIMP_OFF_THE_FRAME = 3,  /* "off the frame": rows is 0, or first_row + rows, not wrapped, is above height; test row: row >= height */
+    ROKZIMP_OFF_THE_FRAME = 3,  /* "off the frame": rows is 0, or first_row + rows, not wrapped, is above height; test row:
+                                   row >= height */
     ROKZIMP_SHORT_HALO = 4,     /* "short halo": the piece of the mosaic has not the exact length */
-    ROKZIMP_PLANE_MISFIT = 5,   /* "plane misfit": one of the planes, or the mosaic to be written, is not rows * width long; a test frame
-                                   is not width * height long, or its row not width */
+    ROKZIMP_PLANE_MISFIT = 5,   /* "plane misfit": one of the planes, or the mosaic to be written, is not rows * width long; a
+                                   test frame is not width * height long, or its row not width */
     ROKZIMP_OVER_RANGE = 6,     /* "over range": some reading of the piece is above 4095 */
     ROKZIMP_NO_SUCH_ROW = 7,    /* "no such row": a plane is shorter than (row + 1) * width, not wrapped; partner view: or row >= height */
-    /* 8 is for files, which no function here reads */
+    /* 8 is for what the two programs read, which no function here does */
     ROKZIMP_NOT_CAMERA_PLANES = 9 /* "not camera planes": an observed sample is not a multiple of 16, or is above 65520 */
 };
 
@@ -98,7 +99,8 @@ uint32_t rokzimp_test_frame(uint32_t seed, size_t width, size_t height, uint16_t
  * long. Returns 0 and every reading of the row is written; or the refusal, and none is. */
 uint32_t rokzimp_test_row(uint32_t seed, size_t width, size_t height, size_t row, uint16_t *out, size_t out_count);
 
-/* The state after so many steps, any 64-bit number of them. (It takes 64 doublings at most: its loop is proved to end after 64 turns.) */
+/* The state after so many steps, any 64-bit number of them. (It takes at most 64 doublings: that is in the proof that its loop ends,
+ * not in its contract.) */
 uint32_t rokzimp_jump(uint32_t state, uint64_t steps);
 
 /* A row view: row `row` of a plane, as the part of it that starts at sample rokzimp_row_view_start and is

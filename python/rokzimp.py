@@ -8,8 +8,8 @@ Mosaics and planes are lent as they are, and nothing is copied: a numpy array of
 stored row by row without gaps. What is written has to be writable; what is only read need not be.
 
 A refusal is raised as Refused, with the papers' number and word, and no lent sample is changed. A number too large for the
-library, or below 0, is refused as the largest number would be; where no refusal is of it, as of a seed, it raises ValueError. Calls let other Python threads run; see include/rokzimp.h for what
-threads may do at the same time.
+library, or below 0, is refused as the largest number would be; a seed, a state or a number of steps, for which there is no refusal,
+raises ValueError instead. Calls let other Python threads run; see include/rokzimp.h for what threads may do at the same time.
 """
 import array
 import concurrent.futures
@@ -24,7 +24,8 @@ WORDS = {
     2: ("unknown layout", "layout above 3"),
     3: ("off the frame", "no rows, or a row past the frame"),
     4: ("short halo", "the piece of the mosaic has not the exact length"),
-    5: ("plane misfit", "one of the planes, or the mosaic to be written, is not rows * width long; or a test frame is not width * height long, or its row not width"),
+    5: ("plane misfit", "one of the planes, or the mosaic to be written, is not rows * width long; or a test frame is not "
+                        "width * height long, or its row not width"),
     6: ("over range", "some reading of the piece is above 4095"),
     7: ("no such row", "a plane lacks the row, or the row is past the frame"),
     8: ("torn file", "the file is not what its first ten bytes say"),

@@ -1,7 +1,7 @@
 #!/usr/bin/env python3
 """planes_cases.py SEED [DIRECTORY]: writes crates/planes_cases/stdin (SEED 1), inputs of the two small programs, each behind a byte
-that says of which (0: frame files, 1: test frames) and a two-byte length, and crates/planes_cases/stdout, what
-reference/reference.py's program prints for each. Without a DIRECTORY it also writes stdin and stdout of crates/planes_long and
+that says of which (0: frame files, 1: test frames) and a two-byte length, and crates/planes_cases/stdout, what the same
+program of reference/reference.py prints for each. Without a DIRECTORY it also writes stdin and stdout of crates/planes_long and
 planes_short, a file that is a byte too long and one that is a byte too short, and of crates/test_planes, test_planes_long and
 test_planes_short, seed 0, 8 by 8, layout 0, the same and a tenth byte, and the same without the last."""
 import os

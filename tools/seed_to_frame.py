@@ -4,7 +4,8 @@
     tools/seed_to_frame.py SEED WIDTH HEIGHT LAYOUT FRAME
 
 FRAME is then a file of document 01's format with the readings of the test frame of that seed, so that others who name the same
-numbers have the same file. (The small program takes a file of at most 4096 readings.) A refusal, 1 or 2, prints one line, as the small program does, and nothing is written."""
+numbers have the same file. (The small program takes a file of at most 4096 readings.) A refusal, 1 or 2, prints one line, as the
+small program does, and nothing is written."""
 import sys
 
 from frame_to_png import frame_file  # to import it puts python/ on the path too

@@ -4,8 +4,9 @@
     rt check planes test_planes && tools/build_library.sh && tools/test_vectors.py SEED [COUNT]      COUNT (200) cases of each kind
 
 Compared are the number of each call and every lent sample afterwards; where the call is refused the case has them as they were
-before. The small programs' cases (P, N) are handed to target/bin/planes and target/bin/test_planes. Prints how many cases of each kind were tried, how many of them
-were refused, and those that differ; the exit status is 1 if one does. A kind, or a name in a case, that this file does not know is an error."""
+before. The small programs' cases (P, N) are handed to target/bin/planes and target/bin/test_planes. Prints how many cases of each
+kind were tried, how many of them were refused, and those that differ; the exit status is 1 if one does. A kind, or a name in a case,
+that this file does not know is an error."""
 import array
 import collections
 import os

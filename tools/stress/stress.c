@@ -328,7 +328,7 @@ static void frame_case(int twice) {
     uint64_t W = size(), H = size();
     while (W * H > (one_in(15) ? ROOM : 12000)) W = size(), H = size();
     size_t len = (size_t)(W * H), row_len = (size_t)W;
-    if (one_in(8)) H = 4096; /* more rows than there is room for: the row alone is made, and the frame misfits */
+    if (one_in(8)) H = 4096; /* more rows than the lent frame has, mostly: the row is made, and the frame misfits */
     uint64_t row = one_in(3) ? H - 1 : below(H);
     if (one_in(2))
         for (uint64_t k = 1 + below(2); k > 0; k--)

@@ -25,11 +25,11 @@ readings bytes = testFrame (seedOf bytes) (frameOf bytes .width) (frameOf bytes 
 abbrev pub largeCases : Frame → List Case
 largeCases f = (malformedFile when ltb 4096 (f .width * f .height)) ∷ []
 
--- of the frame that is named: 1, 2; then that
+-- of the frame that is named: 1, 2; then 8, if it is too large
 abbrev pub namedCases : Frame → List Case
 namedCases f = frameCases f ++ largeCases f
 
--- the program's number: 8, if there are not exactly nine bytes; then those. 0 where none holds
+-- the program's number: 8, if there are not exactly nine bytes; then the cases of the frame. 0 where none holds
 unfoldable pub bytesNumber : (bytes : List ℕ) → ℕ
 bytesNumber bytes = firstOf ((malformedFile when not (eqb (length bytes) 9)) ∷ namedCases (frameOf bytes))
 
