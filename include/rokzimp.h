@@ -7,9 +7,8 @@
  *
  *   - A pointer and the count after it are one run of that many 16-bit samples, at an even address, which the call may read and, where the pointer
  *     is not to const, write. With a count of 0 the pointer is not used, and must still not be NULL.
- *   - A run that is written (red, green, blue of a strip; the mosaic that is given back; a test frame or its row) overlaps no other
- *     run of the same call.
- *     Runs that are only read may overlap each other.
+ *   - A run that is written (red, green, blue of a strip; the mosaic that is given back; a test frame or its row) overlaps no
+ *     other run of the same call. Runs that are only read may overlap each other.
  *   - No other thread writes a run of the call while it runs, nor reads one that it writes.
  *
  * The library keeps no memory between calls, takes no lock and no heap, and prints nothing. Calls in several threads are

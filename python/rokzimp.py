@@ -8,8 +8,8 @@ Mosaics and planes are lent as they are, and nothing is copied: a numpy array of
 stored row by row without gaps. What is written has to be writable; what is only read need not be.
 
 A refusal is raised as Refused, with the papers' number and word, and no lent sample is changed. A number too large for the
-library, or below 0, is refused as the largest number would be; a seed, a state or a number of steps, for which there is no refusal,
-raises ValueError instead. Calls let other Python threads run; see include/rokzimp.h for what threads may do at the same time.
+library, or below 0, is refused as the largest number would be; where there is no refusal (a seed, a state, a number of steps, the rows
+of a piece) it raises ValueError. Calls let other Python threads run; see include/rokzimp.h for what threads may do at the same time.
 """
 import array
 import concurrent.futures
@@ -276,8 +276,8 @@ test_frame.__test__ = test_row.__test__ = False  # by their names a test runner 
 
 
 def jump(state, steps):
-    """The generator's state after so many steps from a 32-bit state, any 64-bit number of them; others
-    raise ValueError. A reading is a new state // 2 ** 20."""
+    """The generator's state after so many steps from a 32-bit state, any 64-bit number of them; other numbers raise ValueError. A
+    reading is a new state // 2 ** 20."""
     return _library.rokzimp_jump(_exact(state, 32), _exact(steps, 64))
 
 
