@@ -48,7 +48,7 @@ returns : tie.Need-returns
 returns c =
     let t = c .before .before .before .before in
     let p = c .before .before .put-refusal-line .ensures in
-    (rw (refused-here (called (t .before)) (t .if1 .taken)) (p .0), omega (arith, p .1))
+    (rw (refused-here (called (t .before)) (λ z. omega (arith, z, t .if1 .taken))) (p .0), omega (arith, p .1))
 
 put-lines-requires : tie.Need-put-lines-requires
 put-lines-requires c κs = search needs
@@ -69,7 +69,7 @@ returns-2 : tie.Need-returns-2
 returns-2 c =
     let e = c .before .before .before .before .before .before .before in
     let p = c .before .before .put-lines .ensures in
-    (rw (delivered-here (called (e .before)) (e .if1 .left)) (p .0), p .1)
+    (rw (delivered-here (called (e .before)) (omega (arith, e .if1 .left))) (p .0), p .1)
 
 pub put-planes-spec : {M : Type 1} → statement M
 put-planes-spec =

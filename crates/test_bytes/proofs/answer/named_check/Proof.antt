@@ -33,10 +33,10 @@ mul-if2 : tie.Need-mul-if2
 mul-if2 c = let w = frame-fits (c .before .before .before .args .frame) (zero (c .before)) in omega (arith, mul-le-mul (w .narrow) (w .low))
 
 returns-2 : tie.Need-returns-2
-returns-2 c = rw (passed (c .before .before), lt-ltb _ _ (c .if2 .taken))
+returns-2 c = let f = c .before .before .before .before .args .frame in rw (passed (c .before .before), lt-ltb 4096 (f .width * f .height) (omega (arith, c .if2 .taken)))
 
 returns-3 : tie.Need-returns-3
-returns-3 c = rw (passed (c .before .before), le-ltb _ _ (c .if2 .left))
+returns-3 c = let f = c .before .before .before .before .args .frame in rw (passed (c .before .before), le-ltb 4096 (f .width * f .height) (omega (arith, c .if2 .left)))
 
 pub named-check-spec : {M : Type 1} → statement M
 named-check-spec = tie.close (tie.spec frame-check-requires returns mul-if2 returns-2 returns-3)

@@ -1,7 +1,8 @@
 -- `test_frames::frame::row_check` meets its contract, by its tests in their order. Assumes nothing.
 use mathlib.Core.Path.{_≡_, sym, _∙_}
-use mathlib.Core.Bool.{cond, not}
+use mathlib.Core.Bool.{true, cond, not}
 use mathlib.Core.List.{_∷_}
+use native.Mathlib.Omega.{arith}
 use borrow.Author.Needs.{needs}
 use borrow.Author.Tests.{eq-eqb, ne-eqb, lt-ltb, le-ltb}
 use lib.Dec.{ltb, eqb}
@@ -30,13 +31,17 @@ passed c =
     later (sizeCases (a .width) (a .height)) ((rowsOutsideFrame when not (ltb (a .row) (a .height))) ∷ misfitCases (a .width) (a .lent)) (sym (c .before .sizes-check .ensures) ∙ c .if1 .left)
 
 returns-2 : tie.Need-returns-2
-returns-2 c = rw (passed (c .before), le-ltb _ _ (c .if2 .taken))
+returns-2 c = let a = c .before .before .before .args in rw (passed (c .before), le-ltb (a .row) (a .height) (omega (arith, c .if2 .taken)))
+
+-- the row lies inside
+inside : (c : tie.Else2) → let a = c .before .before .before .args in ltb (a .row) (a .height) ≡ true
+inside c = let a = c .before .before .before .args in lt-ltb (a .row) (a .height) (omega (arith, c .if2 .left))
 
 returns-3 : tie.Need-returns-3
-returns-3 c = rw (passed (c .before .before), lt-ltb _ _ (c .before .if2 .left), ne-eqb _ _ (c .if3 .taken))
+returns-3 c = rw (passed (c .before .before), inside (c .before), ne-eqb _ _ (c .if3 .taken))
 
 returns-4 : tie.Need-returns-4
-returns-4 c = rw (passed (c .before .before), lt-ltb _ _ (c .before .if2 .left), eq-eqb _ _ (c .if3 .left))
+returns-4 c = rw (passed (c .before .before), inside (c .before), eq-eqb _ _ (c .if3 .left))
 
 pub row-check-spec : {M : Type 1} → statement M
 row-check-spec = tie.close (tie.spec sizes-check-requires returns returns-2 returns-3 returns-4)

@@ -17,14 +17,14 @@ row-check-requires : tie.Need-row-check-requires
 row-check-requires c κs = search needs
 
 returns : tie.Need-returns
-returns c = refuses (c .before .row-check .ensures) (c .if1 .taken)
+returns c = refuses (c .before .row-check .ensures) (λ z. omega (arith, z, c .if1 .taken))
 
 -- where the call is accepted
 abbrev start : tie.Else1 → tie.Start
 start c = c .before .before .before
 
 zero : (c : tie.Else1) → let a = start c .args in 0 ≡ rowNumber (a .width) (a .height) (a .row) (length (a .out .now))
-zero c = sym (c .if1 .left) ∙ c .before .row-check .ensures
+zero c = let accepted : c .before .row-check .result ≡ 0 = omega (arith, c .if1 .left) in sym accepted ∙ c .before .row-check .ensures
 
 fitting : (c : tie.Else1) → let a = start c .args in RowFits (a .width) (a .height) (a .row) (length (a .out .now))
 fitting c = row-fits _ _ _ _ (sym (zero c))
