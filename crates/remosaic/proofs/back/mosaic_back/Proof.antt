@@ -13,7 +13,7 @@ mosaic-back-check-requires : tie.Need-mosaic-back-check-requires
 mosaic-back-check-requires c κs = search needs
 
 returns : tie.Need-returns
-returns c = refuses (c .before .mosaic-back-check .ensures) (c .if1 .taken)
+returns c = refuses (c .before .mosaic-back-check .ensures) (λ z. omega (arith, z, c .if1 .taken))
 
 -- where the call is accepted
 zero : (c : tie.Else1) → c .before .mosaic-back-check .result ≡ 0
