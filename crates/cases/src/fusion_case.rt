@@ -17,11 +17,11 @@ fn five_sum(a: usize) -> i64
 }
 
 fn direction(s: usize, a: usize) -> Direction
-    ensures { λ r. ⌜ Fitting 134217728 r ⌝ }
+    ensures { λ r. ⌜ Fitting 16777216 r ⌝ }
 {
     Direction {
         five: five_sum(a),
-        sum: (s % 294841) as u64,
+        sum: (s % 884521) as u64,
     }
 }
 

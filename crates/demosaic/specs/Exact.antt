@@ -50,6 +50,6 @@ exactSample f first rows k i j = exactFrom f (continued f first rows) (exactGree
 
 -- how far a delivered sample of each plane may lie from it, in hundredths of a unit
 abbrev pub printedError : Colour → ℕ
-printedError Red = 151
-printedError Green = 51
-printedError Blue = 151
+printedError Red = 155
+printedError Green = 53
+printedError Blue = 155

@@ -3,4 +3,4 @@ pub mod PlaneTests
 pub mod FigureTable
 pub mod PlaneTable
 pub mod ExactTable
-pub mod NotFifty
+pub mod NotFiftyOne

@@ -88,14 +88,14 @@ holds (readingsFrom seed l) = readingsAfter seed (length l) ≡ l
 abbrev pub figures : List Claim
 figures =
     differenceIs false 100 10 20 90 98 (negsuc 327) ∷ differenceIs true 100 10 20 90 98 (pos 328)
-    ∷ sharesAre 4 4 4 8 134217728 134217728 134217728 33554432
-    ∷ sharesAre 12 4 12 12 14913080 134217728 14913080 14913080 ∷ sharesAre 12 12 12 4 14913080 14913080 14913080 134217728
+    ∷ sharesAre 4 4 4 8 16777216 16777216 16777216 4194304
+    ∷ sharesAre 12 4 12 12 1864135 16777216 1864135 1864135 ∷ sharesAre 12 12 12 4 1864135 1864135 1864135 16777216
     ∷ fusionAdds (pos 3) (pos 1) ∷ fusionAdds (pos 2) (pos 0) ∷ fusionAdds (negsuc 1) (pos 0) ∷ fusionAdds (negsuc 2) (negsuc 0)
     ∷ fillIs 4 10 (pos 2) 10 ∷ fillIs 4 10 (negsuc 1) 11 ∷ fillIs 2 10 (pos 1) 10
     ∷ planesOf 400 200 100 6400 3200 1600
     ∷ planesOf 4095 0 0 65520 0 0
     ∷ mirrorReads 8 (negsuc 0) 1 ∷ mirrorReads 8 (negsuc 6) 7 ∷ mirrorReads 8 (pos 8) 6 ∷ mirrorReads 8 (pos 14) 0
-    ∷ printedIs Red 151 ∷ printedIs Green 51 ∷ printedIs Blue 151
+    ∷ printedIs Red 155 ∷ printedIs Green 53 ∷ printedIs Blue 155
     ∷ numberIs notCameraPlanes 9
     ∷ refusedIs 16 false ∷ refusedIs 17 true ∷ refusedIs 65520 false ∷ refusedIs 65521 true ∷ refusedIs 65536 true
     ∷ mosaicIs 0 8 6400 3200 1600 400 200 100 ∷ mosaicIs 3 2 65520 0 0 4095 0 0

@@ -9,10 +9,10 @@ use Rattle.whole.specs.Fraction.{Fraction, ratio, natural, Within, Same}
 use Rattle.whole.proofs.Distance.{is-quotient}
 use Rattle.whole.proofs.FractionLaws.{within-same, within-wider, within-cond}
 use Rattle.bayer.specs.Mosaic.{Mosaic, isGreen}
-use Rattle.gbtf.specs.Bounds.{mostDifference, mostGradient, mostSum}
+use Rattle.gbtf.specs.Bounds.{mostDifference, mostPlainGradient, mostGradient, mostSum}
 use Rattle.gbtf.specs.Direction.{directionSum, total}
-use Rattle.gbtf.specs.GreenAt.{differenceAlong, DH, DV, GH, GV, window, east, west, north, south, greenAt, exactGreenAt}
-use Rattle.gbtf.proofs.PixelBounds.{difference-within, gradient-within, direction-sum-within, five-sum-within}
+use Rattle.gbtf.specs.GreenAt.{differenceAlong, plainGradientAlong, gradientAlong, DH, DV, GH, GV, window, east, west, north, south, greenAt, exactGreenAt}
+use Rattle.gbtf.proofs.PixelBounds.{difference-within, plain-gradient-within, gradient-within, direction-sum-within, five-sum-within}
 use Rattle.gbtf.proofs.GreenError.{green-within}
 
 -- g units are within 1/2 + 393120 / K of G
@@ -25,6 +25,12 @@ exact-sharp K n = within-wider {b = 1} (K + 786240) (2 * K) (omega arith) (omega
 -- along a line of readings, in a row or in a column
 along-bound : (green : ℤ → Bool) (x : ℤ → ℕ) → ((k : ℤ) → x k ≤ 4095) → (k : ℤ) → natAbs (differenceAlong green x k) ≤ mostDifference
 along-bound green x range k = difference-within (green k) (record { centre = range _; left = range _; right = range _; second = range _; other = range _ })
+
+gradient-bound : (D : ℤ → ℤ) → ((k : ℤ) → natAbs (D k) ≤ mostDifference) → (k : ℤ) → gradientAlong D k ≤ mostGradient
+gradient-bound D h k = gradient-within (plain (k -ℤ pos 1)) (plain k) (plain (k +ℤ pos 1))
+  where
+    plain : (k : ℤ) → plainGradientAlong D k ≤ mostPlainGradient
+    plain k = plain-gradient-within (D (k -ℤ pos 1)) (D (k +ℤ pos 1)) (h (k -ℤ pos 1)) (h (k +ℤ pos 1))
 
 sum-bound : (G : ℤ → ℤ → ℕ) → ((i j : ℤ) → G i j ≤ mostGradient) → (i j : ℤ) → directionSum (window G i j) ≤ mostSum
 sum-bound G h i j = direction-sum-within (h _ _) (h _ _) (h _ _) (h _ _) (h _ _) (h _ _) (h _ _) (h _ _) (h _ _)
@@ -40,11 +46,11 @@ module _ (m : Mosaic) (range : (i j : ℤ) → m .reading i j ≤ 4095) where
 
   GH-bound : (i j : ℤ) → GH m i j ≤ mostGradient
   unfolding GH
-  GH-bound i j = gradient-within (DH m i (j -ℤ pos 1)) (DH m i (j +ℤ pos 1)) (DH-bound i (j -ℤ pos 1)) (DH-bound i (j +ℤ pos 1))
+  GH-bound i j = gradient-bound (λ k. DH m i k) (λ k. DH-bound i k) j
 
   GV-bound : (i j : ℤ) → GV m i j ≤ mostGradient
   unfolding GV
-  GV-bound i j = gradient-within (DV m (i -ℤ pos 1) j) (DV m (i +ℤ pos 1) j) (DV-bound (i -ℤ pos 1) j) (DV-bound (i +ℤ pos 1) j)
+  GV-bound i j = gradient-bound (λ k. DV m k j) (λ k. DV-bound k j) i
 
   -- of each direction
   pub direction-sums-bound : (ws : List ℕ) (i j : ℤ) → (east ws m i j .sum ≤ mostSum) × (west ws m i j .sum ≤ mostSum) × (north ws m i j .sum ≤ mostSum) × (south ws m i j .sum ≤ mostSum)

@@ -11,11 +11,11 @@ use Rattle.whole.specs.Fraction.{natural}
 use Rattle.bayer.specs.declared.colour.Colour.{Colour}
 use Rattle.bayer.specs.Mosaic.{Mosaic, isGreen}
 use Rattle.bayer.proofs.Near.{Near, wider, plus, minus, back}
-use Rattle.gbtf.specs.Difference.{difference, gradient}
+use Rattle.gbtf.specs.Difference.{difference, plainGradient}
 use Rattle.gbtf.specs.Direction.{directionSum, fiveSum, total, direction}
 use Rattle.gbtf.specs.Fusion.{green}
 use Rattle.gbtf.specs.Exact.{exactGreen}
-use Rattle.gbtf.specs.GreenAt.{DH, DV, GH, GV, threeFrom, window, east, west, north, south, greenAt, exactGreenAt}
+use Rattle.gbtf.specs.GreenAt.{plainGradientAlong, gradientAlong, DH, DV, GH, GV, threeFrom, window, east, west, north, south, greenAt, exactGreenAt}
 
 -- five-sums of differences that are the same
 pub five-sum-same : (ws : List ℕ) (D E : ℕ → ℤ) → ((k : ℕ) → k ≤ 4 → D k ≡ E k) → fiveSum ws D ≡ fiveSum ws E
@@ -44,11 +44,14 @@ module _ (colour : ℤ → ℤ → Colour) (m n : ℤ → ℤ → ℕ) (i : ℤ)
 
   GH-same : (r : ℤ) → Near 7 i r → GH x r ≡ GH y r
   unfolding GH
-  GH-same r h = λ t j. gradient (DH-same r h t (j -ℤ pos 1)) (DH-same r h t (j +ℤ pos 1))
+  GH-same r h = λ t j. gradientAlong (DH-same r h t) j
 
-  GV-same : (r : ℤ) → Near 4 i r → GV x r ≡ GV y r
+  plain-same : (r : ℤ) → Near 4 i r → (j : ℤ) → plainGradientAlong (λ k. DV x k j) r ≡ plainGradientAlong (λ k. DV y k j) r
+  plain-same r h j = λ t. plainGradient (DV-same (r -ℤ pos 1) (minus 5 1 r h (lit≤ tt)) t j) (DV-same (r +ℤ pos 1) (plus 5 1 r h (lit≤ tt)) t j)
+
+  GV-same : (r : ℤ) → Near 3 i r → GV x r ≡ GV y r
   unfolding GV
-  GV-same r h = λ t j. gradient (DV-same (r -ℤ pos 1) (minus 5 1 r h (lit≤ tt)) t j) (DV-same (r +ℤ pos 1) (plus 5 1 r h (lit≤ tt)) t j)
+  GV-same r h = λ t j. plain-same (r -ℤ pos 1) (minus 4 1 r h (lit≤ tt)) j t + plain-same r (wider 4 r h (lit≤ tt)) j t + plain-same (r +ℤ pos 1) (plus 4 1 r h (lit≤ tt)) j t
 
   module _ (ws : List ℕ) (r : ℤ) (h : Near 1 i r) (j : ℤ) where
     -- the gradients along rows r − 1 to r + 1, from any column on
@@ -64,12 +67,12 @@ module _ (colour : ℤ → ℤ → Colour) (m n : ℤ → ℤ → ℕ) (i : ℤ)
     north-same : north ws x r j ≡ north ws y r j
     north-same = ap₂ direction
         (five-sum-same ws _ _ (λ k l. ap (λ D. D j) (DV-same (r -ℤ pos k) (minus 5 k r h (omega arith)))))
-        (window-same (GV x) (GV y) (r -ℤ pos 2) (j -ℤ pos 1) (GV-same _ (minus 4 2 r h (lit≤ tt))) (GV-same _ (back 4 2 1 r h (lit≤ tt) (lit≤ tt))) (GV-same _ (back 4 2 2 r h (lit≤ tt) (lit≤ tt))))
+        (window-same (GV x) (GV y) (r -ℤ pos 2) (j -ℤ pos 1) (GV-same _ (minus 3 2 r h (lit≤ tt))) (GV-same _ (back 3 2 1 r h (lit≤ tt) (lit≤ tt))) (GV-same _ (back 3 2 2 r h (lit≤ tt) (lit≤ tt))))
 
     south-same : south ws x r j ≡ south ws y r j
     south-same = ap₂ direction
         (five-sum-same ws _ _ (λ k l. ap (λ D. D j) (DV-same (r +ℤ pos k) (plus 5 k r h (omega arith)))))
-        (window-same (GV x) (GV y) r (j -ℤ pos 1) (GV-same _ (wider 4 r h (lit≤ tt))) (GV-same _ (plus 4 1 r h (lit≤ tt))) (GV-same _ (plus 4 2 r h (lit≤ tt))))
+        (window-same (GV x) (GV y) r (j -ℤ pos 1) (GV-same _ (wider 3 r h (lit≤ tt))) (GV-same _ (plus 3 1 r h (lit≤ tt))) (GV-same _ (plus 3 2 r h (lit≤ tt))))
 
     reading-same : m r j ≡ n r j
     reading-same = ap (λ f. f j) (agree r (wider 7 r h (lit≤ tt)))

@@ -2,23 +2,19 @@
 use Prim.Native.Nat.{ℕ, _*_, _≤_, _<_}
 use native.Mathlib.Nat.{le-refl, le-trans, lt-of-le-of-lt, mul-le-mul, mul-le-mul-left, mul-le-mul-right, mul-pos}
 use native.Mathlib.Omega.{arith}
-use lib.Dec.{lit<}
 use lib.IntN.{ℤ, pos, natAbs, _+ℤ_, _*ℤ_}
 use mir.Syntax.{w64}
 use Rattle.whole.proofs.FloorLaws.{floor-within}
 use Rattle.whole.proofs.Signed.{lit, nat, int, _⊕_, _⊗_, within}
 use Rattle.gbtf.specs.declared.direction.Direction.{Direction}
-use Rattle.gbtf.specs.Weights.{scale}
 use Rattle.gbtf.specs.Bounds.{mostSum}
 use Rattle.gbtf.specs.Direction.{guardedSum}
 use Rattle.gbtf.specs.Fusion.{fusion}
 use Rattle.gbtf.specs.Machine.{Fitting}
 
-fitting-to : (K B : ℕ) (d : Direction) → natAbs (d .five) ≤ 2097152 → d .sum ≤ B → 4 ≤ B → K * (B * B) < 18446744073709551616 → Fitting K d
-fitting-to K B d h g b l = let m : guardedSum d ≤ B = omega arith in record { five = h; square = lt-of-le-of-lt (mul-le-mul-left K (mul-le-mul m m)) l }
-
-pub fitting : (d : Direction) → natAbs (d .five) ≤ 2097152 → d .sum ≤ mostSum → Fitting scale d
-fitting d h g = fitting-to scale mostSum d h g (omega arith) (lit< tt)
+-- at a share scale K by which the square of the largest direction sum is
+pub fitting : {K : ℕ} → K * (mostSum * mostSum) < 18446744073709551616 → (d : Direction) → natAbs (d .five) ≤ 2097152 → d .sum ≤ mostSum → Fitting K d
+fitting {K} l d h g = let m : guardedSum d ≤ mostSum = omega arith in record { five = h; square = lt-of-le-of-lt (mul-le-mul-left K (mul-le-mul m m)) l }
 
 -- N is a sum of S five-sums, each within 2097152: the quotient is within 16777216
 module _ (N : ℤ) (S T : ℕ) (hN : natAbs N ≤ 2097152 * S) (hS : 0 < S) (hT : 0 < T) where

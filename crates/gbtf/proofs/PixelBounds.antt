@@ -1,7 +1,7 @@
 -- Bounds on the numbers of one pixel. Assumes nothing.
 use mathlib.Core.Bool.{Bool, true, false}
 use mathlib.Core.List.{List, [], _∷_}
-use Prim.Native.Nat.{ℕ, _*_, _≤_}
+use Prim.Native.Nat.{ℕ, _+_, _*_, _≤_}
 use native.Mathlib.Nat.{le-refl, le-trans, mul-le-mul, mul-le-mul-left, div-le-of-le-mul}
 use native.Mathlib.Omega.{arith}
 use lib.IntN.{ℤ, natAbs}
@@ -10,8 +10,8 @@ use mir.Syntax.{w64}
 use Rattle.whole.proofs.Pairs.{Pair, natₚ, _+ₚ_, _-ₚ_, _*ₚ_, within-by}
 use Rattle.whole.proofs.Magnitudes.{sub-within}
 use Rattle.whole.proofs.Signed.{E, nat, int, _⊕_, _⊗_, within}
-use Rattle.gbtf.specs.Bounds.{mostDifference, mostGradient, mostSum}
-use Rattle.gbtf.specs.Difference.{difference, gradient}
+use Rattle.gbtf.specs.Bounds.{mostDifference, mostPlainGradient, mostGradient, mostSum}
+use Rattle.gbtf.specs.Difference.{difference, plainGradient}
 use Rattle.gbtf.specs.Direction.{directionSum, fiveSum, total}
 use Rattle.gbtf.specs.Fusion.{share}
 use Rattle.gbtf.specs.Machine.{Readings}
@@ -27,8 +27,11 @@ unfolding difference
 difference-within false {c} {l} {r} {p} {q} h = within-by (differenceₚ false c l r p q) (omega arith) (omega arith)
 difference-within true {c} {l} {r} {p} {q} h = within-by (differenceₚ true c l r p q) (omega arith) (omega arith)
 
-pub gradient-within : (d e : ℤ) → natAbs d ≤ mostDifference → natAbs e ≤ mostDifference → gradient d e ≤ mostGradient
-gradient-within d e h k = sub-within d e h k
+pub plain-gradient-within : (d e : ℤ) → natAbs d ≤ mostDifference → natAbs e ≤ mostDifference → plainGradient d e ≤ mostPlainGradient
+plain-gradient-within d e h k = sub-within d e h k
+
+pub gradient-within : {a b c : ℕ} → a ≤ mostPlainGradient → b ≤ mostPlainGradient → c ≤ mostPlainGradient → a + b + c ≤ mostGradient
+gradient-within h k l = omega arith
 
 -- ---- the sums of a direction
 pub direction-sum-within : {a b c d e f g h i : ℕ} → a ≤ mostGradient → b ≤ mostGradient → c ≤ mostGradient → d ≤ mostGradient → e ≤ mostGradient → f ≤ mostGradient → g ≤ mostGradient → h ≤ mostGradient → i ≤ mostGradient

@@ -1,4 +1,4 @@
--- Document 01's own forms of the five-sum, of fusion and of green. Assumes nothing.
+-- Document 01's own forms of the five-sum, of fusion and of green, with the share scale of document 02. Assumes nothing.
 use mathlib.Core.Path.{_≡_, _∙_, ap, ap₂}
 use mathlib.Core.Bool.{false}
 use mathlib.Core.List.{[], _∷_}
@@ -55,11 +55,11 @@ pub green-printed : (x : Mosaic) (i j : ℤ) → isGreen x i j ≡ false →
     let tn = max (directionSum (window (GV x) (i -ℤ pos 2) (j -ℤ pos 1))) 4 in
     let ts = max (directionSum (window (GV x) i (j -ℤ pos 1))) 4 in
     let m = min te (min tw (min tn ts)) in
-    let q : ℕ → ℕ = λ t. 2 ^ 27 * (m * m) / (t * t) in
+    let q : ℕ → ℕ = λ t. 2 ^ 24 * (m * m) / (t * t) in
     let N = pos (q te) *ℤ Ae +ℤ pos (q tw) *ℤ Aw +ℤ pos (q tn) *ℤ An +ℤ pos (q ts) *ℤ As in
     let S = q te + q tw + q tn + q ts in
-    greenAt (1 ∷ 1 ∷ 1 ∷ 1 ∷ 1 ∷ []) x i j (2 ^ 27) ≡ clamp (pos (16 * x .reading i j) +ℤ floorDiv (pos 8 *ℤ N +ℤ pos (5 * S)) (10 * S))
+    greenAt (1 ∷ 1 ∷ 1 ∷ 1 ∷ 1 ∷ []) x i j (2 ^ 24) ≡ clamp (pos (16 * x .reading i j) +ℤ floorDiv (pos 8 *ℤ N +ℤ pos (5 * S)) (10 * S))
 unfolding greenAt
 green-printed x i j e =
     rw (e, five-sum-even (λ k. DH x i (j +ℤ pos k)), five-sum-even (λ k. DH x i (j -ℤ pos k)), five-sum-even (λ k. DV x (i -ℤ pos k) j), five-sum-even (λ k. DV x (i +ℤ pos k) j))
-    (four-directions (2 ^ 27) (x .reading i j) _ _ _ _)
+    (four-directions (2 ^ 24) (x .reading i j) _ _ _ _)

@@ -1,4 +1,4 @@
--- How large a difference, a gradient and a direction sum can be, of readings up to 4095. Assumes nothing.
+-- How large a difference, a plain gradient, a gradient and a direction sum can be, of readings up to 4095. Assumes nothing.
 use Prim.Native.Nat.{ℕ}
 
 -- 4 × 4095
@@ -6,9 +6,13 @@ abbrev pub mostDifference : ℕ
 mostDifference = 16380
 
 -- twice that
+abbrev pub mostPlainGradient : ℕ
+mostPlainGradient = 32760
+
+-- three times that
 abbrev pub mostGradient : ℕ
-mostGradient = 32760
+mostGradient = 98280
 
 -- nine times that
 abbrev pub mostSum : ℕ
-mostSum = 294840
+mostSum = 884520

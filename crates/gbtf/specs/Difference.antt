@@ -1,4 +1,4 @@
--- Directional difference (source 004, equation 4) and gradient (equation 11). Assumes nothing.
+-- Directional difference (source 004, equation 4) and plain gradient (equation 11). Assumes nothing.
 use Prim.Native.Nat.{ℕ}
 use mathlib.Core.Bool.{Bool, true, false}
 use lib.IntN.{ℤ, pos, natAbs, _+ℤ_, _-ℤ_, _*ℤ_}
@@ -8,6 +8,6 @@ unfoldable pub difference : (green : Bool) (c l r p q : ℕ) → ℤ
 difference false c l r p q = pos 2 *ℤ (pos l +ℤ pos r) -ℤ pos 2 *ℤ pos c -ℤ pos p -ℤ pos q
 difference true c l r p q = pos 2 *ℤ pos c -ℤ pos 2 *ℤ (pos l +ℤ pos r) +ℤ pos p +ℤ pos q
 
--- from the differences before and after a position (equation 11)
-abbrev pub gradient : (before after : ℤ) → ℕ
-gradient before after = natAbs (before -ℤ after)
+-- document 02's plain gradient, from the differences before and after a position (equation 11)
+abbrev pub plainGradient : (before after : ℤ) → ℕ
+plainGradient before after = natAbs (before -ℤ after)

@@ -1,12 +1,12 @@
 -- Green over a continued mosaic: differences, gradients and windows along each axis, and the four directions. Assumes nothing.
-use Prim.Native.Nat.{ℕ, _*_, _<_}
+use Prim.Native.Nat.{ℕ, _+_, _*_, _<_}
 use mathlib.Core.Bool.{Bool, cond}
 use mathlib.Core.List.{List, [], _∷_}
 use lib.IntN.{ℤ, pos, _+ℤ_, _-ℤ_}
 use Rattle.whole.specs.Fraction.{Fraction, natural}
 use Rattle.bayer.specs.Mosaic.{Mosaic, isGreen}
 use Rattle.gbtf.specs.declared.direction.Direction.{Direction}
-use Rattle.gbtf.specs.Difference.{difference, gradient}
+use Rattle.gbtf.specs.Difference.{difference, plainGradient}
 use Rattle.gbtf.specs.Direction.{directionSum, fiveSum, total, direction}
 use Rattle.gbtf.specs.Fusion.{green}
 use Rattle.gbtf.specs.Exact.{exactGreen}
@@ -15,9 +15,13 @@ use Rattle.gbtf.specs.Exact.{exactGreen}
 abbrev pub differenceAlong : (green : ℤ → Bool) (x : ℤ → ℕ) → ℤ → ℤ
 differenceAlong green x k = difference (green k) (x k) (x (k -ℤ pos 1)) (x (k +ℤ pos 1)) (x (k -ℤ pos 2)) (x (k +ℤ pos 2))
 
--- and the gradient, from the differences along the line
+-- the plain gradient, from the differences along the line
+abbrev pub plainGradientAlong : (D : ℤ → ℤ) → ℤ → ℕ
+plainGradientAlong D k = plainGradient (D (k -ℤ pos 1)) (D (k +ℤ pos 1))
+
+-- and a pixel's gradient, as the authors' code has it (source 000, Algorithm 3; document 02's words decide): the sum of three plain ones, at the pixel and its two neighbours along the line
 abbrev pub gradientAlong : (D : ℤ → ℤ) → ℤ → ℕ
-gradientAlong D k = gradient (D (k -ℤ pos 1)) (D (k +ℤ pos 1))
+gradientAlong D k = plainGradientAlong D (k -ℤ pos 1) + plainGradientAlong D k + plainGradientAlong D (k +ℤ pos 1)
 
 module _ (m : Mosaic) where
   -- along a row

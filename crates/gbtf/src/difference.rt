@@ -1,8 +1,8 @@
 ghost use mathlib.Core.Path.{_≡_};
 ghost use Prim.Native.Nat.{_≤_};
 ghost use lib.IntN.{natAbs};
-ghost use Rattle.gbtf.specs.Bounds.{mostDifference};
-ghost use Rattle.gbtf.specs.Difference.{difference, gradient};
+ghost use Rattle.gbtf.specs.Bounds.{mostDifference, mostPlainGradient};
+ghost use Rattle.gbtf.specs.Difference.{difference, plainGradient};
 ghost use Rattle.gbtf.specs.Machine.{Readings};
 
 // The directional difference, in quarter steps. Along row i: centre c at column j, neighbours l and r at j-1 and j+1, second neighbours p and q at j-2 and j+2.
@@ -29,9 +29,11 @@ pub fn difference(green: bool, c: u16, l: u16, r: u16, p: u16, q: u16) -> i32
     }
 }
 
-// From the differences before and after a position.
-pub fn gradient(before: i32, after: i32) -> u32
-    ensures { λ g. ⌜ g ≡ gradient before after ⌝ }
+// The plain gradient, from the differences before and after a position.
+pub fn plain_gradient(before: i32, after: i32) -> u32
+    requires { ⌜ (natAbs before ≤ mostDifference) × (natAbs after ≤ mostDifference) ⌝ }
+    ensures { λ g. ⌜ g ≡ plainGradient before after ⌝ }
+    ensures { λ g. ⌜ g ≤ mostPlainGradient ⌝ }
 {
-    whole::magnitude(before as i64 - after as i64) as u32
+    whole::magnitude(before - after)
 }

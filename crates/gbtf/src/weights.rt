@@ -3,7 +3,7 @@ ghost use mathlib.Core.Path.{_≡_};
 ghost use Prim.Native.Nat.{_<_};
 ghost use Rattle.gbtf.specs.Direction.{total};
 
-pub const SCALE: u64 = 134217728;
+pub const SCALE: u64 = 16777216;
 
 pub const WEIGHTS: [u8; 5] = [1, 1, 1, 1, 1];
 

@@ -2,19 +2,19 @@
 use Prim.Native.Nat.{ℕ, _+_, _-_, _*_, _%_, _≤_, _<_}
 use mathlib.Core.List.{List, _++_}
 use mathlib.Core.Path.{_≡_, refl, sym, ap, ap₂, _∙_}
-use native.Mathlib.Nat.{add-zero, zero-mul, one-mul, add-mul, mul-le-mul-right, add-sub-cancel-left}
+use native.Mathlib.Nat.{le-of-eq, add-zero, zero-mul, one-mul, add-mul, mul-le-mul-right, add-sub-cancel-left}
 use native.Mathlib.Omega.{arith}
 use lib.Dec.{lit≤}
 use lib.IntN.{ℤ, pos, natAbs, subℕ}
 use lib.ListN.{length, getD, take, drop, length-append}
-use lib.Seq.{drop-append-add}
+use lib.Seq.{drop-at, take-all}
 use Rattle.lists.specs.Part.{rowOf, part}
 use Rattle.lists.specs.Table.{table, joined}
 use Rattle.lists.specs.Bound.{AllAtMost, AllWithin}
 use Rattle.lists.proofs.TableLaws.{length-table, table-same, table-part}
 use Rattle.lists.proofs.JoinedLaws.{joined-same, joined-rows, part-within}
 use Rattle.lists.proofs.PartLaws.{part-length, first-part, other-part, getD-part, part-part}
-use Rattle.lists.proofs.BoundLaws.{all-part}
+use Rattle.lists.proofs.BoundLaws.{all-part, all-append}
 use Rattle.bayer.specs.declared.frame.Frame.{Frame}
 use Rattle.bayer.specs.Mirror.{mirror}
 use Rattle.bayer.specs.Mosaic.{continued}
@@ -23,10 +23,10 @@ use Rattle.bayer.specs.Lent.{Lent}
 use Rattle.bayer.proofs.LentLaws.{row-inside}
 use Rattle.bayer.proofs.ParityLaws.{odd-by, starts-below, starts-next}
 use Rattle.gbtf.specs.Bounds.{mostDifference, mostGradient}
-use Rattle.gbtf.specs.Difference.{difference, gradient}
+use Rattle.gbtf.specs.Difference.{difference, plainGradient}
 use Rattle.gbtf.specs.Direction.{total}
 use Rattle.gbtf.specs.GreenAt.{greenAt}
-use Rattle.green_row.specs.AlongAxis.{differenceIn, gradientIn}
+use Rattle.green_row.specs.AlongAxis.{differenceIn, plainGradientIn, gradientIn}
 use Rattle.green_row.specs.GreenIn.{greenIn}
 use Rattle.green_row.specs.Extended.{column, extendedRow}
 use Rattle.green_row.proofs.BufferBounds.{extended-at-most, differences-within, gradients-at-most}
@@ -45,6 +45,29 @@ difference-same step o p x y k j green read = λ t. difference (green t) (read 2
     here : getD x k 0 ≡ getD y j 0
     here = simp (zero-mul, add-zero) at (read 0 (lit≤ tt))
 
+-- the differences along the rows and along the columns, of readings x around a block whose rows have m places
+abbrev alongRows : (s m o : ℕ) (x : List ℕ) → List ℤ
+alongRows s m o x = table (differenceIn 1 o (part (5 * s - 2) (m + 2 * s + 4) x)) (m + 2 * s)
+
+abbrev alongColumns : (s m o : ℕ) (x : List ℕ) → List ℤ
+alongColumns s m o x = table (differenceIn s (1 - o) x) (m + 8 * s)
+
+part-small : (a k : ℕ) (l : List ℕ) → AllAtMost 4095 l → AllAtMost 4095 (part a k l)
+part-small a k l h = all-part (λ n. n ≤ 4095) 0 (omega arith) a k l h
+
+module _ (f : Frame) (first : ℕ) (rows : List ℕ) (v b s m o : ℕ) {x : List ℕ} (x-is : x ≡ joined (extendedRow f first rows v s) (b + 12)) (small : AllAtMost 4095 rows) where
+  x-small : AllAtMost 4095 x
+  x-small = rw x-is (extended-at-most f first rows v s (b + 12) small)
+
+  rows-within : AllWithin mostDifference (alongRows s m o x)
+  rows-within = differences-within 1 o (part (5 * s - 2) (m + 2 * s + 4) x) (m + 2 * s) (part-small (5 * s - 2) (m + 2 * s + 4) x x-small)
+
+  columns-within : AllWithin mostDifference (alongColumns s m o x)
+  columns-within = differences-within s (1 - o) x (m + 8 * s) x-small
+
+  pub both-within : {d : List ℤ} → d ≡ alongRows s m o x ++ alongColumns s m o x → AllWithin mostDifference d
+  both-within e = rw e (all-append (λ a. natAbs a ≤ mostDifference) (pos 0) (omega arith) (alongRows s m o x) (alongColumns s m o x) rows-within columns-within)
+
 -- ---- a block of b rows from row v on, of which column 0 is green or not by o: the readings x, the differences d and the gradients g
 pub record BlockBuffers (f : Frame) (first : ℕ) (rows : List ℕ) (v b s o : ℕ) (x : List ℕ) (d : List ℤ) (g : List ℕ) : Type 0 where
   pub lent : (i : ℕ) → i < b → Lent f first (length rows) (v + i)
@@ -55,8 +78,8 @@ pub record BlockBuffers (f : Frame) (first : ℕ) (rows : List ℕ) (v b s o : �
   pub narrow : s ≤ f .width + 15
   pub starts : o ≡ startsGreen (f .layout) v
   pub x-is : x ≡ joined (extendedRow f first rows v s) (b + 12)
-  pub d-is : d ≡ table (differenceIn 1 o (part (5 * s - 2) (b * s + 2 * s + 4) x)) (b * s + 2 * s) ++ table (differenceIn s (1 - o) x) (b * s + 8 * s)
-  pub g-is : g ≡ table (gradientIn 1 (part 0 (b * s + 2 * s) d)) (b * s + 2 * s - 2) ++ table (gradientIn s (part (b * s + 3 * s) (b * s + 6 * s) d)) (b * s + 4 * s)
+  pub d-is : d ≡ alongRows s (b * s) o x ++ alongColumns s (b * s) o x
+  pub g-is : g ≡ table (gradientIn 1 (part 0 (b * s + 2 * s) d)) (b * s + 2 * s - 4) ++ table (gradientIn s (part (b * s + 2 * s) (b * s + 8 * s) d)) (b * s + 4 * s)
 
 module _ {f : Frame} {first : ℕ} {rows : List ℕ} {v b s o : ℕ} {x : List ℕ} {d : List ℤ} {g : List ℕ} (z : BlockBuffers f first rows v b s o x d g) where
   abbrev m : ℕ
@@ -66,16 +89,16 @@ module _ {f : Frame} {first : ℕ} {rows : List ℕ} {v b s o : ℕ} {x : List �
   hx = part (5 * s - 2) (m + 2 * s + 4) x
 
   abbrev dh : List ℤ
-  dh = table (differenceIn 1 o hx) (m + 2 * s)
+  dh = alongRows s m o x
 
   abbrev dv : List ℤ
-  dv = table (differenceIn s (1 - o) x) (m + 8 * s)
+  dv = alongColumns s m o x
 
   abbrev gh : List ℕ
-  gh = table (gradientIn 1 dh) (m + 2 * s - 2)
+  gh = table (gradientIn 1 dh) (m + 2 * s - 4)
 
   abbrev gv : List ℕ
-  gv = table (gradientIn s (part s (m + 6 * s) dv)) (m + 4 * s)
+  gv = table (gradientIn s dv) (m + 4 * s)
 
   -- ---- the parts that `fuse_rows` is handed are these
   dh-part : take (m + 2 * s - 0) d ≡ dh
@@ -84,24 +107,22 @@ module _ {f : Frame} {first : ℕ} {rows : List ℕ} {v b s o : ℕ} {x : List �
   dv-part : take (length d - (m + 2 * s)) (drop (m + 2 * s) d) ≡ dv
   dv-part = other-part (m + 2 * s) dh dv (z .d-is) (length-table _ _)
 
-  dv-inner : part (m + 3 * s) (m + 6 * s) (dh ++ dv) ≡ part s (m + 6 * s) dv
-  dv-inner =
-      let e : m + 3 * s ≡ length dh + s = rw (length-table (differenceIn 1 o hx) (m + 2 * s)) (omega arith) in
-      ap (take (m + 6 * s)) (ap (λ n. drop n (dh ++ dv)) e ∙ drop-append-add dh dv s)
+  dv-whole : part (m + 2 * s) (m + 8 * s) d ≡ dv
+  dv-whole = ap (part (m + 2 * s) (m + 8 * s)) (z .d-is) ∙ ap (take (m + 8 * s)) (drop-at dh dv (m + 2 * s) (length-table _ _)) ∙ take-all (m + 8 * s) dv (le-of-eq (length-table _ _))
 
   two-gradients : g ≡ gh ++ gv
   two-gradients =
       z .g-is
-      ∙ ap₂ (λ a c. table (gradientIn 1 a) (m + 2 * s - 2) ++ table (gradientIn s c) (m + 4 * s)) (first-part (m + 2 * s) (m + 2 * s) dh dv (z .d-is) (length-table _ _) refl) (ap (part (m + 3 * s) (m + 6 * s)) (z .d-is) ∙ dv-inner)
+      ∙ ap₂ (λ a c. table (gradientIn 1 a) (m + 2 * s - 4) ++ table (gradientIn s c) (m + 4 * s)) (first-part (m + 2 * s) (m + 2 * s) dh dv (z .d-is) (length-table _ _) refl) dv-whole
 
-  pub gradients-length : length g ≡ m + 2 * s - 2 + (m + 4 * s)
+  pub gradients-length : length g ≡ m + 2 * s - 4 + (m + 4 * s)
   gradients-length = ap length two-gradients ∙ length-append gh gv ∙ ap₂ (λ (a c : ℕ). a + c) (length-table _ _) (length-table _ _)
 
-  gh-part : take (m + 2 * s - 2 - 0) g ≡ gh
-  gh-part = first-part (m + 2 * s - 2) (m + 2 * s - 2 - 0) gh gv two-gradients (length-table _ _) (omega arith)
+  gh-part : take (m + 2 * s - 4 - 0) g ≡ gh
+  gh-part = first-part (m + 2 * s - 4) (m + 2 * s - 4 - 0) gh gv two-gradients (length-table _ _) (omega arith)
 
-  gv-part : take (length g - (m + 2 * s - 2)) (drop (m + 2 * s - 2) g) ≡ gv
-  gv-part = other-part (m + 2 * s - 2) gh gv two-gradients (length-table _ _)
+  gv-part : take (length g - (m + 2 * s - 4)) (drop (m + 2 * s - 4) g) ≡ gv
+  gv-part = other-part (m + 2 * s - 4) gh gv two-gradients (length-table _ _)
 
   -- ---- row i
   module _ (i : ℕ) (hi : i < b) where
@@ -132,15 +153,15 @@ module _ {f : Frame} {first : ℕ} {rows : List ℕ} {v b s o : ℕ} {x : List �
         let a : i * s + j + e * s ≡ i * s + (j + e * s) = omega arith in
         ap (λ n. getD x n 0) a ∙ sym (x′-at (j + e * s) (omega (arith, mul-le-mul-right s l)))
 
-    -- the differences that a gradient is worked out from
-    dh-at : (n k : ℕ) → n ≡ i * s + k → k < 3 * s → getD dh n (pos 0) ≡ getD (part (i * s) (3 * s) dh) k (pos 0)
-    dh-at n k e h = ap (λ n. getD dh n (pos 0)) e ∙ sym (getD-part (i * s) (3 * s) dh k (pos 0) h)
+    -- a gradient is worked out from differences of this row's part
+    gradient-part : (step n : ℕ) (l : List ℤ) (j : ℕ) → j + 4 * step < n → gradientIn step l (i * s + j) ≡ gradientIn step (part (i * s) n l) j
+    gradient-part step n l j h = λ t. plain j (i * s + j) refl (omega arith) t + plain (j + step) (i * s + j + step) (omega arith) (omega arith) t + plain (j + 2 * step) (i * s + j + 2 * step) (omega arith) (omega arith) t
+      where
+        at : (k a : ℕ) → a ≡ i * s + k → k < n → getD l a (pos 0) ≡ getD (part (i * s) n l) k (pos 0)
+        at k a e g = ap (λ a. getD l a (pos 0)) e ∙ sym (getD-part (i * s) n l k (pos 0) g)
 
-    dv-at : (n k : ℕ) → n ≡ i * s + k → k < 7 * s → getD (part s (m + 6 * s) dv) n (pos 0) ≡ getD (part s (7 * s) (part (i * s) (9 * s) dv)) k (pos 0)
-    dv-at n k e h =
-        let a : s + n ≡ i * s + (s + k) = omega arith in
-        getD-part s (m + 6 * s) dv n (pos 0) (omega (arith, below)) ∙ ap (λ n. getD dv n (pos 0)) a
-        ∙ sym (getD-part s (7 * s) (part (i * s) (9 * s) dv) k (pos 0) h ∙ getD-part (i * s) (9 * s) dv (s + k) (pos 0) (omega arith))
+        plain : (k a : ℕ) → a ≡ i * s + k → k + 2 * step < n → plainGradientIn step l a ≡ plainGradientIn step (part (i * s) n l) k
+        plain k a e g = ap₂ plainGradient (at k a e (omega arith)) (at (k + 2 * step) (a + 2 * step) (omega arith) g)
 
     parity-dh : (j : ℕ) → isOdd (i * s + j + o) ≡ isOdd (j + o′)
     parity-dh j = odd-by (i * s + j + o) (j + o′) (sum i j o (i * s) (odd-row i s (z .odd)))
@@ -154,7 +175,7 @@ module _ {f : Frame} {first : ℕ} {rows : List ℕ} {v b s o : ℕ} {x : List �
         sum : (i j o n : ℕ) → o ≤ 1 → n % 2 ≡ i % 2 → (n + j + (1 - o)) % 2 ≡ (j + (1 - (o + i) % 2)) % 2
         sum i j o n h e = omega arith
 
-    buffers : RowBuffers f first rows (v + i) s o′ x′ (part (i * s) (3 * s) dh) (part (i * s) (9 * s) dv) (part (i * s) (3 * s - 2) gh) (part (i * s) (5 * s) gv)
+    buffers : RowBuffers f first rows (v + i) s o′ x′ (part (i * s) (3 * s) dh) (part (i * s) (9 * s) dv) (part (i * s) (3 * s - 4) gh) (part (i * s) (5 * s) gv)
     buffers = record {
       places = record { lent = z .lent i hi; wide = z .wide; narrow = z .narrow; odd = z .odd };
       starts = ap (λ n. (n + i) % 2) (z .starts) ∙ sym (starts-next (f .layout) v i (z .lent i hi .frame .known));
@@ -168,11 +189,11 @@ module _ {f : Frame} {first : ℕ} {rows : List ℕ} {v b s o : ℕ} {x : List �
           table-part (differenceIn s (1 - o) x) (m + 8 * s) (i * s) (9 * s) (omega (arith, below))
           ∙ table-same _ _ (9 * s) (λ j h. difference-same s (1 - o) (1 - o′) x x′ (i * s + j) j (parity-dv j) (λ e l. x-at j e h l));
       gh-is =
-          table-part (gradientIn 1 dh) (m + 2 * s - 2) (i * s) (3 * s - 2) (omega (arith, below, z .wide))
-          ∙ table-same _ _ (3 * s - 2) (λ j h. ap₂ gradient (dh-at (i * s + j) j refl (omega arith)) (dh-at (i * s + j + 2 * 1) (j + 2 * 1) (omega arith) (omega arith)));
+          table-part (gradientIn 1 dh) (m + 2 * s - 4) (i * s) (3 * s - 4) (omega (arith, below, z .wide))
+          ∙ table-same _ _ (3 * s - 4) (λ j h. gradient-part 1 (3 * s) dh j (omega arith));
       gv-is =
-          table-part (gradientIn s (part s (m + 6 * s) dv)) (m + 4 * s) (i * s) (5 * s) (omega (arith, below))
-          ∙ table-same _ _ (5 * s) (λ j h. ap₂ gradient (dv-at (i * s + j) j refl (omega arith)) (dv-at (i * s + j + 2 * s) (j + 2 * s) (omega arith) (omega arith)));
+          table-part (gradientIn s dv) (m + 4 * s) (i * s) (5 * s) (omega (arith, below))
+          ∙ table-same _ _ (5 * s) (λ j h. gradient-part s (9 * s) dv j (omega arith));
     }
 
   -- ---- green of the block's rows
@@ -198,38 +219,29 @@ module _ {f : Frame} {first : ℕ} {rows : List ℕ} {v b s o : ℕ} {x : List �
       rw (add-sub-cancel-left at (b * f .width), a, add-mul) (part-part (i * f .width) (f .width) at (b * f .width) rows (part-within (f .width) h))
 
   pub block-fused : (K : ℕ) (ws : List ℕ) {out : List ℕ}
-      → out ≡ joined (greenRowIn K ws (f .width) s o own (take (m + 2 * s - 0) d) (take (length d - (m + 2 * s)) (drop (m + 2 * s) d)) (take (m + 2 * s - 2 - 0) g) (take (length g - (m + 2 * s - 2)) (drop (m + 2 * s - 2) g))) b
+      → out ≡ joined (greenRowIn K ws (f .width) s o own (take (m + 2 * s - 0) d) (take (length d - (m + 2 * s)) (drop (m + 2 * s) d)) (take (m + 2 * s - 4 - 0) g) (take (length g - (m + 2 * s - 4)) (drop (m + 2 * s - 4) g))) b
       → out ≡ joined (λ i. table (λ j. greenAt ws (continued f first rows) (pos (v + i)) (pos j) K) (f .width)) b
   block-fused K ws h =
       h
       ∙ rw (dh-part, dv-part, gh-part, gv-part)
       (joined-same _ _ b
-      (λ i k. ap (λ l. table (greenIn K ws s ((o + i) % 2) l (part (i * s) (3 * s) dh) (part (i * s) (9 * s) dv) (part (i * s) (3 * s - 2) gh) (part (i * s) (5 * s) gv)) (f .width)) (own-row i k)
+      (λ i k. ap (λ l. table (greenIn K ws s ((o + i) % 2) l (part (i * s) (3 * s) dh) (part (i * s) (9 * s) dv) (part (i * s) (3 * s - 4) gh) (part (i * s) (5 * s) gv)) (f .width)) (own-row i k)
       ∙ fused (buffers i k) K ws))
 
   -- ---- what `fuse_rows` requires
   module _ (small : AllAtMost 4095 rows) where
-    x-small : AllAtMost 4095 x
-    x-small = rw (z .x-is) (extended-at-most f first rows v s (b + 12) small)
-
-    part-small : (a k : ℕ) (l : List ℕ) → AllAtMost 4095 l → AllAtMost 4095 (part a k l)
-    part-small a k l h = all-part (λ n. n ≤ 4095) 0 (omega arith) a k l h
-
     dh-within : AllWithin mostDifference dh
-    dh-within = differences-within 1 o hx (m + 2 * s) (part-small (5 * s - 2) (m + 2 * s + 4) x x-small)
+    dh-within = rows-within f first rows v b s m o (z .x-is) small
 
     dv-within : AllWithin mostDifference dv
-    dv-within = differences-within s (1 - o) x (m + 8 * s) x-small
-
-    dv-inner-within : AllWithin mostDifference (part s (m + 6 * s) dv)
-    dv-inner-within = all-part (λ a. natAbs a ≤ mostDifference) (pos 0) (omega arith) s (m + 6 * s) dv dv-within
+    dv-within = columns-within f first rows v b s m o (z .x-is) small
 
     pub ready : (ws : List ℕ) → 0 < total ws → total ws ≤ 128 → (out sums : List ℕ) (fives : List ℤ) → length out ≡ b * f .width → length sums ≡ 4 * f .width → length fives ≡ 4 * f .width
         → ((o < 2) × (AllAtMost 4095 own) × (length own ≡ b * f .width) × (length out ≡ b * f .width) × (f .width + 14 ≤ s) × (s ≤ 4111) × (b ≤ 4) × (0 < total ws) × (total ws ≤ 128))
-        × (((length (take (m + 2 * s - 0) d) ≡ m + 2 * s) × (length (take (length d - (m + 2 * s)) (drop (m + 2 * s) d)) ≡ m + 8 * s) × (length (take (m + 2 * s - 2 - 0) g) ≡ m + 2 * s - 2)
-        × (length (take (length g - (m + 2 * s - 2)) (drop (m + 2 * s - 2) g)) ≡ m + 4 * s) × (length sums ≡ 4 * f .width) × (length fives ≡ 4 * f .width))
-        × ((AllWithin mostDifference (take (m + 2 * s - 0) d)) × (AllWithin mostDifference (take (length d - (m + 2 * s)) (drop (m + 2 * s) d))) × (AllAtMost mostGradient (take (m + 2 * s - 2 - 0) g))
-        × (AllAtMost mostGradient (take (length g - (m + 2 * s - 2)) (drop (m + 2 * s - 2) g)))))
+        × (((length (take (m + 2 * s - 0) d) ≡ m + 2 * s) × (length (take (length d - (m + 2 * s)) (drop (m + 2 * s) d)) ≡ m + 8 * s) × (length (take (m + 2 * s - 4 - 0) g) ≡ m + 2 * s - 4)
+        × (length (take (length g - (m + 2 * s - 4)) (drop (m + 2 * s - 4) g)) ≡ m + 4 * s) × (length sums ≡ 4 * f .width) × (length fives ≡ 4 * f .width))
+        × ((AllWithin mostDifference (take (m + 2 * s - 0) d)) × (AllWithin mostDifference (take (length d - (m + 2 * s)) (drop (m + 2 * s) d))) × (AllAtMost mostGradient (take (m + 2 * s - 4 - 0) g))
+        × (AllAtMost mostGradient (take (length g - (m + 2 * s - 4)) (drop (m + 2 * s - 4) g)))))
     ready ws h k out sums fives e e₁ e₂ =
         rw (dh-part, dv-part, gh-part, gv-part) (
           (
@@ -245,6 +257,6 @@ module _ {f : Frame} {first : ℕ} {rows : List ℕ} {v b s o : ℕ} {x : List �
           ),
           (
             (length-table _ _, length-table _ _, length-table _ _, length-table _ _, e₁, e₂),
-            (dh-within, dv-within, gradients-at-most 1 dh (m + 2 * s - 2) dh-within, gradients-at-most s (part s (m + 6 * s) dv) (m + 4 * s) dv-inner-within),
+            (dh-within, dv-within, gradients-at-most 1 dh (m + 2 * s - 4) dh-within, gradients-at-most s dv (m + 4 * s) dv-within),
           ),
         )

@@ -24,14 +24,14 @@ use Rattle.green_row.specs.GreenIn.{greenIn}
 --     rows in all       b + 12  b + 8   b + 4   b + 2
 --
 --     place             0 .. 6          7 .. w + 6        w + 7 .. s − 1
---     in x, dv, gv, dh  columns −7 ..   columns 0 .. w−1  columns w ..       gh starts one place later: its place p is column p − 6
+--     in x, dv, gv, dh  columns −7 ..   columns 0 .. w−1  columns w ..       gh starts two places later: its place p is column p − 5
 --
 -- x: readings. dh, dv: differences along rows and columns; d holds first dh, then dv. gh, gv: their gradients; g holds first gh, then gv.
--- dh is worked out from x's place 5 s − 2 on, two places before row v − 1, so that its places stand under x's; gh from dh's own start, so that it starts later, and is two places short.
--- The first two and last two places of a row of dh, and the first two and last four of gh, reach into the row beside; none of these is read.
+-- dh is worked out from x's place 5 s − 2 on, two places before row v − 1, so that its places stand under x's; gh from dh's own start, so that it starts later, and is four places short.
+-- The first two and last two places of a row of dh, and the first two and last six of gh, reach into the row beside; none of these is read.
 -- Row i of the block is handed what lies from place i s on: 3 rows of dh and gh, 9 of dv, 5 of gv. In these the row itself is row 1, 4 and 2, as in green_row/specs/Directions.
 
 -- green of row i of a block, whose own readings are rows of w
 abbrev pub greenRowIn : (K : ℕ) (ws : List ℕ) (w s odd : ℕ) (own : List ℕ) (dh dv : List ℤ) (gh gv : List ℕ) (i : ℕ) → List ℕ
 greenRowIn K ws w s odd own dh dv gh gv i =
-    table (greenIn K ws s ((odd + i) % 2) (rowOf w i own) (part (i * s) (3 * s) dh) (part (i * s) (9 * s) dv) (part (i * s) (3 * s - 2) gh) (part (i * s) (5 * s) gv)) w
+    table (greenIn K ws s ((odd + i) % 2) (rowOf w i own) (part (i * s) (3 * s) dh) (part (i * s) (9 * s) dv) (part (i * s) (3 * s - 4) gh) (part (i * s) (5 * s) gv)) w

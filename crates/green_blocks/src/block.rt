@@ -36,15 +36,14 @@ fn all_differences(x: &[u16], s: usize, m: usize, odd: usize, d: &mut [i32])
 
 // Their gradients: along the b + 2 rows, and along the columns of the b + 4 rows in the middle.
 fn all_gradients(d: &[i32], s: usize, m: usize, g: &mut [u32])
-    requires { ⌜ (2 ≤ s) × (s ≤ 4111) × (m ≤ 16444) × (length (now d) ≡ m + 2 * s + (m + 8 * s)) × (length (now g) ≡ m + 2 * s - 2 + (m + 4 * s)) ⌝ }
-    ensures { λ _. ⌜ now (g .exit) ≡ table (gradientIn 1 (part 0 (m + 2 * s) (now (d .entry)))) (m + 2 * s - 2) ++ table (gradientIn s (part (m + 3 * s) (m + 6 * s) (now (d .entry)))) (m + 4 * s) ⌝ }
+    requires { ⌜ (2 ≤ s) × (s ≤ 4111) × (m ≤ 16444) × (length (now d) ≡ m + 2 * s + (m + 8 * s)) × (length (now g) ≡ m + 2 * s - 4 + (m + 4 * s)) ⌝ }
+    requires { ⌜ AllWithin mostDifference (now d) ⌝ }
+    ensures { λ _. ⌜ now (g .exit) ≡ table (gradientIn 1 (part 0 (m + 2 * s) (now (d .entry)))) (m + 2 * s - 4) ++ table (gradientIn s (part (m + 2 * s) (m + 8 * s) (now (d .entry)))) (m + 4 * s) ⌝ }
 {
     let dh_len = m + 2 * s;
-    let at = dh_len + s;
-    let end = at + (m + 6 * s);
-    let gh_len = dh_len - 2;
+    let gh_len = dh_len - 4;
     gradients(&d[0..dh_len], 1, &mut g[0..gh_len]);
-    gradients(&d[at..end], s, &mut g[gh_len..]);
+    gradients(&d[dh_len..], s, &mut g[gh_len..]);
 }
 
 // Green of b rows of readings x, from the differences and gradients of a block.
@@ -64,7 +63,7 @@ fn fuse_rows(
     out: &mut [u16],
 )
     requires { ⌜ (odd < 2) × (AllAtMost 4095 (now x)) × (length (now x) ≡ b * w) × (length (now out) ≡ b * w) × (w + 14 ≤ s) × (s ≤ 4111) × (b ≤ 4) × (0 < total weights) × (total weights ≤ 128) ⌝ }
-    requires { ⌜ (length (now dh) ≡ b * s + 2 * s) × (length (now dv) ≡ b * s + 8 * s) × (length (now gh) ≡ b * s + 2 * s - 2) × (length (now gv) ≡ b * s + 4 * s) × (length (now t) ≡ 4 * w) × (length (now f) ≡ 4 * w) ⌝ }
+    requires { ⌜ (length (now dh) ≡ b * s + 2 * s) × (length (now dv) ≡ b * s + 8 * s) × (length (now gh) ≡ b * s + 2 * s - 4) × (length (now gv) ≡ b * s + 4 * s) × (length (now t) ≡ 4 * w) × (length (now f) ≡ 4 * w) ⌝ }
     requires { ⌜ (AllWithin mostDifference (now dh)) × (AllWithin mostDifference (now dv)) × (AllAtMost mostGradient (now gh)) × (AllAtMost mostGradient (now gv)) ⌝ }
     ensures { λ _. ⌜ now (out .exit) ≡ joined (greenRowIn scale weights w s odd (now (x .entry)) (now (dh .entry)) (now (dv .entry)) (now (gh .entry)) (now (gv .entry))) b ⌝ }
 {
@@ -75,7 +74,7 @@ fn fuse_rows(
         let o = i * s;
         let dh_end = o + 3 * s;
         let dv_end = o + 9 * s;
-        let gh_end = o + (3 * s - 2);
+        let gh_end = o + (3 * s - 4);
         let gv_end = o + 5 * s;
         fuse(
             weights,
@@ -111,7 +110,7 @@ pub fn green_block(
 )
     requires { ⌜ ((i : ℕ) → i < b → Lent frame start (length (now piece)) (v + i)) × (0 < b) × (b ≤ 4) × (AllAtMost 4095 (now piece)) ⌝ }
     requires { ⌜ (s % 2 ≡ 1) × (frame .width + 14 ≤ s) × (s ≤ frame .width + 15) × (length (now t) ≡ 4 * frame .width) × (length (now f) ≡ 4 * frame .width) × (length (now out) ≡ b * frame .width) ⌝ }
-    requires { ⌜ (length (now x) ≡ b * s + 12 * s) × (length (now d) ≡ b * s + 2 * s + (b * s + 8 * s)) × (length (now g) ≡ b * s + 2 * s - 2 + (b * s + 4 * s)) ⌝ }
+    requires { ⌜ (length (now x) ≡ b * s + 12 * s) × (length (now d) ≡ b * s + 2 * s + (b * s + 8 * s)) × (length (now g) ≡ b * s + 2 * s - 4 + (b * s + 4 * s)) ⌝ }
     ensures { λ _. ⌜ now (out .exit) ≡ joined (λ i. greenRow frame start (now (piece .entry)) (v + i)) b ⌝ }
 {
     let w = frame.width;
@@ -123,7 +122,7 @@ pub fn green_block(
     let at = (v - start) * w;
     let end = at + b * w;
     let dh_len = m + 2 * s;
-    let gh_len = dh_len - 2;
+    let gh_len = dh_len - 4;
     fuse_rows(
         WEIGHTS,
         &piece[at..end],

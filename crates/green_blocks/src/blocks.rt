@@ -47,7 +47,7 @@ fn green_block_in(
     let m = b * s;
     let xs = m + 12 * s;
     let ds = 2 * m + 10 * s;
-    let gs = 2 * m + 6 * s - 2;
+    let gs = 2 * m + 6 * s - 4;
     let sums = 4 * frame.width;
     green_block(
         frame,

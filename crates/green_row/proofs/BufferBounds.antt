@@ -12,11 +12,11 @@ use Rattle.lists.proofs.TableLaws.{table-all}
 use Rattle.bayer.specs.declared.frame.Frame.{Frame}
 use Rattle.bayer.specs.Mirror.{mirror}
 use Rattle.bayer.specs.Parity.{isOdd}
-use Rattle.gbtf.specs.Bounds.{mostDifference, mostGradient, mostSum}
+use Rattle.gbtf.specs.Bounds.{mostDifference, mostPlainGradient, mostGradient, mostSum}
 use Rattle.gbtf.specs.Direction.{directionSum}
-use Rattle.gbtf.proofs.PixelBounds.{difference-within, gradient-within, direction-sum-within}
+use Rattle.gbtf.proofs.PixelBounds.{difference-within, plain-gradient-within, gradient-within, direction-sum-within}
 use Rattle.green_row.specs.Directions.{windowIn}
-use Rattle.green_row.specs.AlongAxis.{differenceIn, gradientIn}
+use Rattle.green_row.specs.AlongAxis.{differenceIn, plainGradientIn, gradientIn}
 use Rattle.green_row.specs.Extended.{column, extendedRow}
 
 -- ---- rows of readings
@@ -32,8 +32,10 @@ differences-within step odd x n h =
     (λ k _. difference-within (isOdd (k + odd)) (record { centre = h _; left = h _; right = h _; second = h _; other = h _ }))
 
 pub gradients-at-most : (step : ℕ) (d : List ℤ) (n : ℕ) → AllWithin mostDifference d → AllAtMost mostGradient (table (gradientIn step d) n)
-gradients-at-most step d n h =
-    table-all (λ g. g ≤ mostGradient) (gradientIn step d) n (omega arith) (λ k _. gradient-within (getD d k (pos 0)) (getD d (k + 2 * step) (pos 0)) (h k) (h (k + 2 * step)))
+gradients-at-most step d n h = table-all (λ g. g ≤ mostGradient) (gradientIn step d) n (omega arith) (λ k _. gradient-within (plain k) (plain (k + step)) (plain (k + 2 * step)))
+  where
+    plain : (k : ℕ) → plainGradientIn step d k ≤ mostPlainGradient
+    plain k = plain-gradient-within (getD d k (pos 0)) (getD d (k + 2 * step) (pos 0)) (h k) (h (k + 2 * step))
 
 -- ---- the sum of a window of gradients
 pub window-at-most : (g : List ℕ) (s q : ℕ) → AllAtMost mostGradient g → directionSum (windowIn s g q) ≤ mostSum

@@ -28,8 +28,8 @@ pub record RowBuffers (f : Frame) (first : ℕ) (rows : List ℕ) (v s o : ℕ) 
   pub x-is : x ≡ joined (extendedRow f first rows v s) 13
   pub dh-is : dh ≡ table (differenceIn 1 o (part (5 * s - 2) (3 * s + 4) x)) (3 * s)
   pub dv-is : dv ≡ table (differenceIn s (1 - o) x) (9 * s)
-  pub gh-is : gh ≡ table (gradientIn 1 dh) (3 * s - 2)
-  pub gv-is : gv ≡ table (gradientIn s (part s (7 * s) dv)) (5 * s)
+  pub gh-is : gh ≡ table (gradientIn 1 dh) (3 * s - 4)
+  pub gv-is : gv ≡ table (gradientIn s dv) (5 * s)
 
 module _ {f : Frame} {first : ℕ} {rows : List ℕ} {v s o : ℕ} {x : List ℕ} {dh dv : List ℤ} {gh gv : List ℕ} (z : RowBuffers f first rows v s o x dh dv gh gv) where
   abbrev p : RowPlaces f first rows v s
@@ -50,16 +50,15 @@ module _ {f : Frame} {first : ℕ} {rows : List ℕ} {v s o : ℕ} {x : List ℕ
 
   holds : RowHolds (continued f first rows) v (f .width) s o own dh dv gh gv
   holds =
-      let dvs : List ℤ = part s (7 * s) (table (differenceIn s (1 - startsGreen (f .layout) v) x) (9 * s)) in
       rw (z .gh-is, z .gv-is, z .dh-is, z .dv-is, z .starts) (
       record {
         wide = p .wide;
         own-at = λ j h. ap₂ (λ a b. getD (rowOf (f .width) (a - first) rows) b 0) (sym (mirror-inside (f .height) v (p .lent .row))) (sym (mirror-inside (f .width) j h));
         green-at = λ j h. green-at p 6 (j + 7) (j + startsGreen (f .layout) v) (lit≤ tt) (omega arith) (omega arith) ∙ ap₂ (isGreen (continued f first rows)) (at-place v 6) (at-place j 7);
         dh-at = DH-at p x hx x-at hx-at;
-        dv-at = DV-at p x x-at dvs;
+        dv-at = DV-at p x x-at;
         gh-at = GH-at p x hx x-at hx-at;
-        gv-at = GV-at p x x-at dvs (λ k l. getD-part s (7 * s) _ k (pos 0) l);
+        gv-at = GV-at p x x-at;
       }
       )
 

@@ -57,7 +57,7 @@ pub record RowHolds (m : Mosaic) (v w s o : ℕ) (own : List ℕ) (dh dv : List 
   pub green-at : (j : ℕ) → j < w → isOdd (j + o) ≡ isGreen m (pos v) (pos j)
   pub dh-at : (r c : ℕ) → r < 3 → c + 4 < s → getD dh (r * s + (c + 2)) (pos 0) ≡ DH m (subℕ (v + (5 + r)) 6) (subℕ (c + 2) 7)
   pub dv-at : (r c : ℕ) → r < 9 → c < s → c ≤ w + 13 → getD dv (r * s + c) (pos 0) ≡ DV m (subℕ (v + (r + 2)) 6) (subℕ c 7)
-  pub gh-at : (r c : ℕ) → r < 3 → c + 6 < s → getD gh (r * s + (c + 2)) 0 ≡ GH m (subℕ (v + (5 + r)) 6) (subℕ (c + 3) 7)
+  pub gh-at : (r c : ℕ) → r < 3 → c + 8 < s → getD gh (r * s + (c + 2)) 0 ≡ GH m (subℕ (v + (5 + r)) 6) (subℕ (c + 4) 7)
   pub gv-at : (r c : ℕ) → r < 5 → c < s → c ≤ w + 13 → getD gv (r * s + c) 0 ≡ GV m (subℕ (v + (r + 4)) 6) (subℕ c 7)
 
 module _ {m : Mosaic} {v w s o : ℕ} {own : List ℕ} {dh dv : List ℤ} {gh gv : List ℕ} (z : RowHolds m v w s o own dh dv gh gv) (ws : List ℕ) (j : ℕ) (hj : j < w) where
@@ -71,12 +71,12 @@ module _ {m : Mosaic} {v w s o : ℕ} {own : List ℕ} {dh dv : List ℤ} {gh gv
   back : (k : ℕ) → k ≤ 4 → subℕ (j + 5 - k + 2) 7 ≡ pos j -ℤ pos k
   back k h = eq-by (subₚ (j + 5 - k + 2) 7) (natₚ j -ₚ natₚ k) (omega arith)
 
-  gh-window : (q c : ℕ) → q ≡ c + 2 → c + 8 < s → windowIn s gh q ≡ window (GH m) (pos v -ℤ pos 1) (subℕ (c + 3) 7)
+  gh-window : (q c : ℕ) → q ≡ c + 2 → c + 10 < s → windowIn s gh q ≡ window (GH m) (pos v -ℤ pos 1) (subℕ (c + 4) 7)
   gh-window q c a h =
-      window-at s gh (GH m) q (v + 5) 6 (c + 3) 7
+      window-at s gh (GH m) q (v + 5) 6 (c + 4) 7
       (λ r e k l. (let i : q + r * s + e ≡ r * s + (c + e + 2) = omega arith in ap (λ n. getD gh n 0) i) ∙ z .gh-at r (c + e) k (omega arith)
-      ∙ ap₂ (λ y z. GH m (subℕ y 6) (subℕ z 7)) (let b : v + (5 + r) ≡ v + 5 + r = omega arith in b) (let d : c + e + 3 ≡ c + 3 + e = omega arith in d))
-      ∙ ap (λ z. window (GH m) z (subℕ (c + 3) 7)) (eq-by (subₚ (v + 5) 6) (natₚ v -ₚ natₚ 1) (omega arith))
+      ∙ ap₂ (λ y z. GH m (subℕ y 6) (subℕ z 7)) (let b : v + (5 + r) ≡ v + 5 + r = omega arith in b) (let d : c + e + 4 ≡ c + 4 + e = omega arith in d))
+      ∙ ap (λ z. window (GH m) z (subℕ (c + 4) 7)) (eq-by (subₚ (v + 5) 6) (natₚ v -ₚ natₚ 1) (omega arith))
 
   gv-window : (q p : ℕ) → (i : ℕ) → q ≡ i * s + (j + 6) → i ≤ 2 → p ≡ v + (i + 4) → windowIn s gv q ≡ window (GV m) (subℕ p 6) (pos j -ℤ pos 1)
   gv-window q p i a h b =
@@ -88,12 +88,12 @@ module _ {m : Mosaic} {v w s o : ℕ} {own : List ℕ} {dh dv : List ℤ} {gh gv
   east-is : directionIn ws s dh dv gh gv j 0 ≡ east ws m (pos v) (pos j)
   east-is = ap₂ direction
       (five-sum-same ws _ _ (λ k l. (let a : s + (j + 7) + k * 1 ≡ 1 * s + (j + 5 + k + 2) = omega arith in ap (λ n. getD dh n (pos 0)) a) ∙ z .dh-at 1 (j + 5 + k) (lit≤ tt) (omega arith) ∙ ap₂ (DH m) here (onward k)))
-      (ap directionSum (gh-window (j + 6) (j + 4) (omega arith) (omega arith) ∙ ap (window (GH m) (pos v -ℤ pos 1)) (eq-by (subₚ (j + 4 + 3) 7) (natₚ j) (omega arith))))
+      (ap directionSum (gh-window (j + 5) (j + 3) (omega arith) (omega arith) ∙ ap (window (GH m) (pos v -ℤ pos 1)) (eq-by (subₚ (j + 3 + 4) 7) (natₚ j) (omega arith))))
 
   west-is : directionIn ws s dh dv gh gv j 1 ≡ west ws m (pos v) (pos j)
   west-is = ap₂ direction
       (five-sum-same ws _ _ (λ k l. (let a : s + (j + 7) - k * 1 ≡ 1 * s + (j + 5 - k + 2) = omega arith in ap (λ n. getD dh n (pos 0)) a) ∙ z .dh-at 1 (j + 5 - k) (lit≤ tt) (omega arith) ∙ ap₂ (DH m) here (back k l)))
-      (ap directionSum (gh-window (j + 4) (j + 2) (omega arith) (omega arith) ∙ ap (window (GH m) (pos v -ℤ pos 1)) (eq-by (subₚ (j + 2 + 3) 7) (natₚ j -ₚ natₚ 2) (omega arith))))
+      (ap directionSum (gh-window (j + 3) (j + 1) (omega arith) (omega arith) ∙ ap (window (GH m) (pos v -ℤ pos 1)) (eq-by (subₚ (j + 1 + 4) 7) (natₚ j -ₚ natₚ 2) (omega arith))))
 
   north-is : directionIn ws s dh dv gh gv j 2 ≡ north ws m (pos v) (pos j)
   north-is = ap₂ direction

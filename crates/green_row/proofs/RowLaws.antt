@@ -21,9 +21,9 @@ use Rattle.bayer.specs.Parity.{isOdd, startsGreen}
 use Rattle.bayer.specs.Lent.{Lent}
 use Rattle.bayer.proofs.MirrorLaws.{mirror-near}
 use Rattle.bayer.proofs.ParityLaws.{place-green, starts-below}
-use Rattle.gbtf.specs.Difference.{difference, gradient}
-use Rattle.gbtf.specs.GreenAt.{differenceAlong, gradientAlong, DH, DV, GH, GV}
-use Rattle.green_row.specs.AlongAxis.{differenceIn, gradientIn}
+use Rattle.gbtf.specs.Difference.{difference, plainGradient}
+use Rattle.gbtf.specs.GreenAt.{differenceAlong, plainGradientAlong, gradientAlong, DH, DV, GH, GV}
+use Rattle.green_row.specs.AlongAxis.{differenceIn, plainGradientIn, gradientIn}
 use Rattle.green_row.specs.Extended.{extendedRow}
 
 -- ---- positions: place n is position n − b
@@ -61,11 +61,33 @@ module _ (step odd : ℕ) (x : List ℕ) (k : ℕ) (G : ℤ → Bool) (L : ℤ �
       last : getD x (k + 4 * step) 0 ≡ L (subℕ (p + 2) b +ℤ pos 2)
       last = let c : p + 4 ≡ p + 2 + 2 = omega arith in read 4 (lit≤ tt) ∙ ap L (ap (λ n. subℕ n b) c ∙ sym (ahead (p + 2) b 2))
 
-gradient-along : (step : ℕ) (d : List ℤ) (k : ℕ) (D : ℤ → ℤ) (p b : ℕ) → getD d k (pos 0) ≡ D (subℕ p b) → getD d (k + 2 * step) (pos 0) ≡ D (subℕ (p + 2) b)
-    → gradientIn step d k ≡ gradientAlong D (subℕ (p + 1) b)
-gradient-along step d k D p b e f =
+plain-along : (step : ℕ) (d : List ℤ) (k : ℕ) (D : ℤ → ℤ) (p b : ℕ) → getD d k (pos 0) ≡ D (subℕ p b) → getD d (k + 2 * step) (pos 0) ≡ D (subℕ (p + 2) b)
+    → plainGradientIn step d k ≡ plainGradientAlong D (subℕ (p + 1) b)
+plain-along step d k D p b e f =
     let c : p + 2 ≡ p + 1 + 1 = omega arith in
-    ap₂ gradient (e ∙ ap D (sym (behind p b 1))) (f ∙ ap D (ap (λ n. subℕ n b) c ∙ sym (ahead (p + 1) b 1)))
+    ap₂ plainGradient (e ∙ ap D (sym (behind p b 1))) (f ∙ ap D (ap (λ n. subℕ n b) c ∙ sym (ahead (p + 1) b 1)))
+
+gradient-along : (step : ℕ) (d : List ℤ) (k : ℕ) (D : ℤ → ℤ) (p b : ℕ) → ((e : ℕ) → e ≤ 4 → getD d (k + e * step) (pos 0) ≡ D (subℕ (p + e) b))
+    → gradientIn step d k ≡ gradientAlong D (subℕ (p + 2) b)
+gradient-along step d k D p b read = λ t. before t + here t + after t
+  where
+    -- place k + n step on, which is position p + n − b
+    plain : (n : ℕ) → n ≤ 2 → plainGradientIn step d (k + n * step) ≡ plainGradientAlong D (subℕ (p + n + 1) b)
+    plain n h =
+        let a : k + n * step + 2 * step ≡ k + (n + 2) * step = omega arith in
+        let c : p + (n + 2) ≡ p + n + 2 = omega arith in
+        plain-along step d (k + n * step) D (p + n) b (read n (omega arith)) (ap (λ i. getD d i (pos 0)) a ∙ read (n + 2) (omega arith) ∙ ap (λ i. D (subℕ i b)) c)
+
+    before : plainGradientIn step d k ≡ plainGradientAlong D (subℕ (p + 2) b -ℤ pos 1)
+    before = let a : k ≡ k + 0 * step = omega arith in let c : p + 2 ≡ p + 0 + 1 + 1 = omega arith in
+        ap (plainGradientIn step d) a ∙ plain 0 (lit≤ tt) ∙ ap (plainGradientAlong D) (sym (behind (p + 0 + 1) b 1) ∙ ap (λ i. subℕ i b -ℤ pos 1) (sym c))
+
+    here : plainGradientIn step d (k + step) ≡ plainGradientAlong D (subℕ (p + 2) b)
+    here = let a : k + step ≡ k + 1 * step = omega arith in let c : p + 1 + 1 ≡ p + 2 = omega arith in
+        ap (plainGradientIn step d) a ∙ plain 1 (lit≤ tt) ∙ ap (λ i. plainGradientAlong D (subℕ i b)) c
+
+    after : plainGradientIn step d (k + 2 * step) ≡ plainGradientAlong D (subℕ (p + 2) b +ℤ pos 1)
+    after = plain 2 (lit≤ tt) ∙ ap (plainGradientAlong D) (sym (ahead (p + 2) b 1))
 
 pub odd-row : (r s : ℕ) → s % 2 ≡ 1 → (r * s) % 2 ≡ r % 2
 odd-row r s h = let t : s ≡ s / 2 * 2 + 1 = omega (arith, div-add-mod' s 2) in rw t (parity r (s / 2))
@@ -136,19 +158,24 @@ module _ {f : Frame} {first : ℕ} {rows : List ℕ} {v s : ℕ} (z : RowPlaces 
         parity r c g e = omega arith
 
     abbrev gh : List ℕ
-    gh = table (gradientIn 1 dh) (3 * s - 2)
+    gh = table (gradientIn 1 dh) (3 * s - 4)
 
-    pub GH-at : (r c : ℕ) → r < 3 → c + 6 < s → getD gh (r * s + (c + 2)) 0 ≡ GH m (Row (5 + r)) (Col (c + 3))
+    pub GH-at : (r c : ℕ) → r < 3 → c + 8 < s → getD gh (r * s + (c + 2)) 0 ≡ GH m (Row (5 + r)) (Col (c + 4))
     unfolding GH
     GH-at r c h k =
-        let a : r * s + (c + 2) + 2 * 1 ≡ r * s + (c + 2 + 2) = omega arith in
-        let b : c + 2 + 1 ≡ c + 3 = omega arith in
-        getD-table (gradientIn 1 dh) (3 * s - 2) (r * s + (c + 2)) 0 (omega (arith, mul-le-mul-right s h))
-        ∙ gradient-along 1 dh (r * s + (c + 2)) (λ z. DH m (Row (5 + r)) z) (c + 2) 7 (DH-at r c h (omega arith)) (ap (λ n. getD dh n (pos 0)) a ∙ DH-at r (c + 2) h (omega arith))
+        let b : c + 2 + 2 ≡ c + 4 = omega arith in
+        getD-table (gradientIn 1 dh) (3 * s - 4) (r * s + (c + 2)) 0 (omega (arith, mul-le-mul-right s h))
+        ∙ gradient-along 1 dh (r * s + (c + 2)) (λ z. DH m (Row (5 + r)) z) (c + 2) 7 read
         ∙ ap (λ n. gradientAlong (λ z. DH m (Row (5 + r)) z) (Col n)) b
+      where
+        read : (e : ℕ) → e ≤ 4 → getD dh (r * s + (c + 2) + e * 1) (pos 0) ≡ DH m (Row (5 + r)) (Col (c + 2 + e))
+        read e l =
+            let a : r * s + (c + 2) + e * 1 ≡ r * s + (c + e + 2) = omega arith in
+            let d : c + e + 2 ≡ c + 2 + e = omega arith in
+            ap (λ n. getD dh n (pos 0)) a ∙ DH-at r (c + e) h (omega arith) ∙ ap (λ n. DH m (Row (5 + r)) (Col n)) d
 
-  -- dv: the differences along the column of rows v − 4 to v + 4; dvs those of rows v − 3 to v + 3
-  module _ (x : List ℕ) (x-at : (r c : ℕ) → r < 13 → c < s → getD x (r * s + c) 0 ≡ m .reading (Row r) (Col c)) (dvs : List ℤ) where
+  -- dv: the differences along the column of rows v − 4 to v + 4
+  module _ (x : List ℕ) (x-at : (r c : ℕ) → r < 13 → c < s → getD x (r * s + c) 0 ≡ m .reading (Row r) (Col c)) where
     abbrev dv : List ℤ
     dv = table (differenceIn s (1 - g) x) (9 * s)
 
@@ -173,22 +200,18 @@ module _ {f : Frame} {first : ℕ} {rows : List ℕ} {v s : ℕ} (z : RowPlaces 
         parity r c h e = omega arith
 
     abbrev gv : List ℕ
-    gv = table (gradientIn s dvs) (5 * s)
+    gv = table (gradientIn s dv) (5 * s)
 
-    module _ (dvs-at : (k : ℕ) → k < 7 * s → getD dvs k (pos 0) ≡ getD dv (s + k) (pos 0)) where
-      DV-at-inner : (r c : ℕ) → r < 7 → c < s → c ≤ f .width + 13 → getD dvs (r * s + c) (pos 0) ≡ DV m (subℕ (v + (r + 3)) 6) (Col c)
-      DV-at-inner r c h k l =
-          let a : s + (r * s + c) ≡ (r + 1) * s + c = omega arith in
-          let b : r + 1 + 2 ≡ r + 3 = omega arith in
-          dvs-at (r * s + c) (omega (arith, mul-le-mul-right s h)) ∙ ap (λ n. getD dv n (pos 0)) a ∙ DV-at (r + 1) c (omega arith) k l ∙ ap (λ n. DV m (Row n) (Col c)) b
-
-      pub GV-at : (r c : ℕ) → r < 5 → c < s → c ≤ f .width + 13 → getD gv (r * s + c) 0 ≡ GV m (Row (r + 4)) (Col c)
-      unfolding GV
-      GV-at r c h k l =
-          let a : r * s + c + 2 * s ≡ (r + 2) * s + c = omega arith in
-          let b : v + (r + 2 + 3) ≡ v + (r + 3) + 2 = omega arith in
-          let d : v + (r + 3) + 1 ≡ v + (r + 4) = omega arith in
-          getD-table (gradientIn s dvs) (5 * s) (r * s + c) 0 (omega (arith, mul-le-mul-right s h))
-          ∙ gradient-along s dvs (r * s + c) (λ z. DV m z (Col c)) (v + (r + 3)) 6 (DV-at-inner r c (omega arith) k l)
-          (ap (λ n. getD dvs n (pos 0)) a ∙ DV-at-inner (r + 2) c (omega arith) k l ∙ ap (λ n. DV m (subℕ n 6) (Col c)) b)
-          ∙ ap (λ n. gradientAlong (λ z. DV m z (Col c)) (subℕ n 6)) d
+    pub GV-at : (r c : ℕ) → r < 5 → c < s → c ≤ f .width + 13 → getD gv (r * s + c) 0 ≡ GV m (Row (r + 4)) (Col c)
+    unfolding GV
+    GV-at r c h k l =
+        let b : v + (r + 2) + 2 ≡ v + (r + 4) = omega arith in
+        getD-table (gradientIn s dv) (5 * s) (r * s + c) 0 (omega (arith, mul-le-mul-right s h))
+        ∙ gradient-along s dv (r * s + c) (λ z. DV m z (Col c)) (v + (r + 2)) 6 read
+        ∙ ap (λ n. gradientAlong (λ z. DV m z (Col c)) (subℕ n 6)) b
+      where
+        read : (e : ℕ) → e ≤ 4 → getD dv (r * s + c + e * s) (pos 0) ≡ DV m (subℕ (v + (r + 2) + e) 6) (Col c)
+        read e i =
+            let a : r * s + c + e * s ≡ (r + e) * s + c = omega arith in
+            let d : v + (r + e + 2) ≡ v + (r + 2) + e = omega arith in
+            ap (λ n. getD dv n (pos 0)) a ∙ DV-at (r + e) c (omega arith) k l ∙ ap (λ n. DV m (subℕ n 6) (Col c)) d

@@ -5,12 +5,16 @@ use mathlib.Core.List.{List}
 use lib.IntN.{ℤ, pos}
 use lib.ListN.{getD}
 use Rattle.bayer.specs.Parity.{isOdd}
-use Rattle.gbtf.specs.Difference.{difference, gradient}
+use Rattle.gbtf.specs.Difference.{difference, plainGradient}
 
 -- the difference at place k + 2 step of x, along an axis whose places are step apart; place k + 2 step is green where k + odd is odd
 abbrev pub differenceIn : (step odd : ℕ) (x : List ℕ) → ℕ → ℤ
 differenceIn step odd x k = difference (isOdd (k + odd)) (getD x (k + 2 * step) 0) (getD x (k + step) 0) (getD x (k + 3 * step) 0) (getD x k 0) (getD x (k + 4 * step) 0)
 
--- the gradient at place k + step of d
+-- the plain gradient at place k + step of d
+abbrev pub plainGradientIn : (step : ℕ) (d : List ℤ) → ℕ → ℕ
+plainGradientIn step d k = plainGradient (getD d k (pos 0)) (getD d (k + 2 * step) (pos 0))
+
+-- the gradient at place k + 2 step of d
 abbrev pub gradientIn : (step : ℕ) (d : List ℤ) → ℕ → ℕ
-gradientIn step d k = gradient (getD d k (pos 0)) (getD d (k + 2 * step) (pos 0))
+gradientIn step d k = plainGradientIn step d k + plainGradientIn step d (k + step) + plainGradientIn step d (k + 2 * step)

@@ -22,7 +22,7 @@ before step d p k = getD d (p - k * step) (pos 0)
 
 -- The buffers are drawn in green_blocks/specs/Block. Direction 0 is east, 1 west, 2 north, and every one from 3 on south. dh and gh hold the differences and gradients along the row, of the row before, the row and the row after;
 -- dv holds the differences along the column of the four rows before to the four rows after, and gv the gradients of the two rows before to the two after.
--- Place j + 7 of a row of dh, dv and gv is column j. gh starts one place later: its place j + 6 is column j, and gv's place j + 6 is column j − 1
+-- Place j + 7 of a row of dh, dv and gv is column j. gh starts two places later: its place j + 5 is column j. gv's place j + 6 is column j − 1
 
 -- direction k's five-sum at column j
 abbrev pub fiveIn : (ws : List ℕ) (s : ℕ) (dh dv : List ℤ) (k j : ℕ) → ℤ
@@ -33,8 +33,8 @@ fiveIn ws s dh dv (suc (suc (suc k))) j = fiveSum ws (after s dv (4 * s + (j + 7
 
 -- its direction sum
 abbrev pub sumIn : (s : ℕ) (gh gv : List ℕ) (k j : ℕ) → ℕ
-sumIn s gh gv zero j = directionSum (windowIn s gh (j + 6))
-sumIn s gh gv (suc zero) j = directionSum (windowIn s gh (j + 4))
+sumIn s gh gv zero j = directionSum (windowIn s gh (j + 5))
+sumIn s gh gv (suc zero) j = directionSum (windowIn s gh (j + 3))
 sumIn s gh gv (suc (suc zero)) j = directionSum (windowIn s gv (j + 6))
 sumIn s gh gv (suc (suc (suc k))) j = directionSum (windowIn s gv (2 * s + (j + 6)))
 

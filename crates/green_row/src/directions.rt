@@ -18,15 +18,15 @@ fn reversed(w: [u8; 5]) -> [u8; 5]
 
 // The direction sums of a row of w readings: all to the east, then west, north and south.
 pub fn row_sums(s: usize, gh: &[u32], gv: &[u32], w: usize, t: &mut [u32])
-    requires { ⌜ (w + 14 ≤ s) × (s < 4112) × (length (now gh) + 2 ≡ 3 * s) × (length (now gv) ≡ 5 * s) × (length (now t) ≡ 4 * w) ⌝ }
+    requires { ⌜ (w + 14 ≤ s) × (s < 4112) × (length (now gh) + 4 ≡ 3 * s) × (length (now gv) ≡ 5 * s) × (length (now t) ≡ 4 * w) ⌝ }
     requires { ⌜ (AllAtMost mostGradient (now gh)) × (AllAtMost mostGradient (now gv)) ⌝ }
     ensures { λ _. ⌜ now (t .exit) ≡ joined (λ k. table (sumIn s (now (gh .entry)) (now (gv .entry)) k) w) 4 ⌝ }
 {
     let two = 2 * w;
     let three = 3 * w;
     let four = 4 * w;
-    sums(gh, s, 6, &mut t[0..w]);
-    sums(gh, s, 4, &mut t[w..two]);
+    sums(gh, s, 5, &mut t[0..w]);
+    sums(gh, s, 3, &mut t[w..two]);
     sums(gv, s, 6, &mut t[two..three]);
     sums(gv, s, 2 * s + 6, &mut t[three..four]);
 }

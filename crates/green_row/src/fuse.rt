@@ -81,7 +81,7 @@ pub fn fuse(
     out: &mut [u16],
 )
     requires { ⌜ (odd < 2) × (AllAtMost 4095 (now x)) × (length (now out) ≡ length (now x)) × (0 < total weights) × (total weights ≤ 128) ⌝ }
-    requires { ⌜ (length (now x) + 14 ≤ s) × (s < 4112) × (length (now dh) ≡ 3 * s) × (length (now dv) ≡ 9 * s) × (length (now gh) + 2 ≡ 3 * s) × (length (now gv) ≡ 5 * s) ⌝ }
+    requires { ⌜ (length (now x) + 14 ≤ s) × (s < 4112) × (length (now dh) ≡ 3 * s) × (length (now dv) ≡ 9 * s) × (length (now gh) + 4 ≡ 3 * s) × (length (now gv) ≡ 5 * s) ⌝ }
     requires { ⌜ (AllWithin mostDifference (now dh)) × (AllWithin mostDifference (now dv)) × (AllAtMost mostGradient (now gh)) × (AllAtMost mostGradient (now gv)) ⌝ }
     requires { ⌜ (length (now t) ≡ 4 * length (now x)) × (length (now f) ≡ 4 * length (now x)) ⌝ }
     ensures { λ _. ⌜ now (out .exit) ≡ table (greenIn scale weights s odd (now (x .entry)) (now (dh .entry)) (now (dv .entry)) (now (gh .entry)) (now (gv .entry))) (length (now (out .entry))) ⌝ }

@@ -19,7 +19,7 @@ exactGreens f first rows i j = exactGreenAt evenWeights (continued f first rows)
 
 -- how far green may lie from exact green, in thousandths of a unit: sharper than the printed hundredths, from which those of red and blue would not follow
 abbrev pub greenThousandths : ℕ
-greenThousandths = 503
+greenThousandths = 524
 
 -- row v of green
 abbrev pub greenRow : Frame → (first : ℕ) (rows : List ℕ) (v : ℕ) → List ℕ

@@ -29,7 +29,7 @@ module _ {A : Type 0} (P : A → Type 0) (d : A) (past : P d) where
   pub all-part : (a n : ℕ) (l : List A) → All l → All (part a n l)
   all-part a n l h = all-take n (drop a l) (all-drop a l h)
 
-  all-append : (xs ys : List A) → All xs → All ys → All (xs ++ ys)
+  pub all-append : (xs ys : List A) → All xs → All ys → All (xs ++ ys)
   all-append [] ys h g k = g k
   all-append (x ∷ xs) ys h g zero = h 0
   all-append (x ∷ xs) ys h g (suc k) = all-append xs ys (λ j. h (suc j)) g k

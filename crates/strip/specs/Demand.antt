@@ -68,6 +68,6 @@ pub record Demanded (f : Frame) (readings : List ℕ) (l : List StripCall) (p q 
 
 -- the printed error as users cite it
 pub record Cited (f : Frame) (readings : List ℕ) (l : List StripCall) (q : Planes) : Type 0 where
-  pub red : NearExact f readings l q Red 151
-  pub green : NearExact f readings l q Green 51
-  pub blue : NearExact f readings l q Blue 151
+  pub red : NearExact f readings l q Red 155
+  pub green : NearExact f readings l q Green 53
+  pub blue : NearExact f readings l q Blue 155

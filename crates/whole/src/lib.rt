@@ -16,8 +16,8 @@ pub fn clamp(x: i32) -> u16
     }
 }
 
-pub fn magnitude(x: i64) -> u64
+pub fn magnitude(x: i32) -> u32
     ensures { λ r. ⌜ r ≡ natAbs x ⌝ }
 {
-    if x < 0 { (-1 - x) as u64 + 1 } else { x as u64 }
+    if x < 0 { (-1 - x) as u32 + 1 } else { x as u32 }
 }

@@ -4,13 +4,13 @@ use mathlib.Core.Path.{_≡_, ap}
 use borrow.Author.Needs.{needs, sfits-of}
 use lib.IntN.{pos, negsuc, _-ℤ_, natAbs}
 use lib.Signed.{mag}
-use mir.Syntax.{w64}
+use mir.Syntax.{w32}
 use mir.Val.{toZ, ofZ}
 use Rattle.whole.proofs.Signed.{is-neg, read-nonneg, turned, read-turned, to-unsigned}
 use Rattle.whole.proofs.magnitude.Statement.{statement}
 use Rattle.whole.proofs.magnitude.Tie as tie
 
-natural : (c : tie.Then1) → toZ w64 (ofZ w64 (negsuc 0 -ℤ toZ w64 (ofZ w64 (c .before .args .x)))) ≡ pos (mag (c .before .args .x))
+natural : (c : tie.Then1) → toZ w32 (ofZ w32 (negsuc 0 -ℤ toZ w32 (ofZ w32 (c .before .args .x)))) ≡ pos (mag (c .before .args .x))
 natural c = read-turned (c .before .fits .x) (c .if1 .taken)
 
 sub-result : tie.Need-sub-result

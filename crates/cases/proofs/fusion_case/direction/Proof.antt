@@ -11,7 +11,7 @@ use Rattle.cases.proofs.fusion_case.direction.Statement.{statement}
 use Rattle.cases.proofs.fusion_case.direction.Tie as tie
 use borrow.Author.Needs.{needs}
 
-square-fits : (t : ℕ) → t ≤ 294840 → 134217728 * (t * t) < 18446744073709551616
+square-fits : (t : ℕ) → t ≤ 884520 → 16777216 * (t * t) < 18446744073709551616
 square-fits t h = omega (arith, mul-le-mul h h)
 
 five-sum-requires : tie.Need-five-sum-requires
@@ -24,7 +24,7 @@ small c =
     (c .five-sum .ensures)
 
 returns : tie.Need-returns
-returns c = record { five = small c; square = square-fits (max (c .before .args .s % 294841) 4) (omega arith) }
+returns c = record { five = small c; square = square-fits (max (c .before .args .s % 884521) 4) (omega arith) }
 
 pub direction-spec : {M : Type 1} → statement M
 direction-spec = tie.close (tie.spec five-sum-requires returns)

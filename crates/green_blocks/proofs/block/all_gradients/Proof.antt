@@ -1,14 +1,17 @@
 -- `green_blocks::block::all_gradients` meets its contract: one part is the gradients along the rows, the other those along the columns. Assumes nothing.
-use Prim.Native.Nat.{ℕ, _+_, _-_, _*_}
+use Prim.Native.Nat.{ℕ, _+_, _-_, _*_, _≤_}
 use native.Mathlib.Omega.{arith}
 use mathlib.Core.List.{List, _++_}
 use mathlib.Core.Path.{_≡_, ap, _∙_}
-use lib.IntN.{ℤ}
+use lib.IntN.{ℤ, pos, natAbs}
 use lib.ListN.{length, take, drop}
 use Rattle.lists.specs.Table.{table}
 use Rattle.lists.specs.Part.{part}
+use Rattle.lists.specs.Bound.{AllWithin}
 use Rattle.lists.proofs.TableLaws.{length-table}
 use Rattle.lists.proofs.PartLaws.{placed-rest}
+use Rattle.lists.proofs.BoundLaws.{all-part}
+use Rattle.gbtf.specs.Bounds.{mostDifference}
 use Rattle.green_row.specs.AlongAxis.{gradientIn}
 use Rattle.green_blocks.proofs.block.all_gradients.Statement.{statement}
 use Rattle.green_blocks.proofs.block.all_gradients.Tie as tie
@@ -18,18 +21,6 @@ mul-dh-len c = omega arith
 
 add-dh-len : tie.Need-add-dh-len
 add-dh-len c = omega arith
-
-add-at : tie.Need-add-at
-add-at c = omega arith
-
-mul-end : tie.Need-mul-end
-mul-end c = omega arith
-
-add-end : tie.Need-add-end
-add-end c = omega arith
-
-add-end-2 : tie.Need-add-end-2
-add-end-2 c = omega arith
 
 sub-gh-len : tie.Need-sub-gh-len
 sub-gh-len c = omega arith
@@ -52,8 +43,12 @@ part-gradients-start-2 c = omega arith
 part-gradients-end-2 : tie.Need-part-gradients-end-2
 part-gradients-end-2 c = omega arith
 
+-- a part of the differences
+within : (q : tie.Start) (a n : ℕ) → AllWithin mostDifference (part a n (q .args .d .now))
+within q a n = all-part (λ d. natAbs d ≤ mostDifference) (pos 0) (omega arith) a n (q .args .d .now) (q .pre .1)
+
 gradients-requires : tie.Need-gradients-requires
-gradients-requires c κs = omega arith
+gradients-requires c κs = let q = c .before .before .before in (omega arith, within q 0 (q .args .m + 2 * q .args .s - 0))
 
 mul-gradients : tie.Need-mul-gradients
 mul-gradients c = omega arith
@@ -80,25 +75,27 @@ part-gradients-end-4 : tie.Need-part-gradients-end-4
 part-gradients-end-4 c = omega arith
 
 gradients-requires-2 : tie.Need-gradients-requires-2
-gradients-requires-2 c κs = omega arith
+gradients-requires-2 c κs =
+    let q = c .before .before .before .before .before .before .before .before in
+    (omega arith, within q (q .args .m + 2 * q .args .s) (length (q .args .d .now) - (q .args .m + 2 * q .args .s)))
 
 same-length : tie.Need-same-length
 same-length c = omega arith
 
 -- what the two calls leave: a of the first n places, e of the others
-whole : (s m n k l k′ l′ at to : ℕ) (d : List ℤ) (q : List ℕ) {a e : List ℕ} {i j : ℕ} → k ≡ l → k′ ≡ l′ → at ≡ to → i ≡ n → j ≡ m
+whole : (s m n k l k′ l′ at : ℕ) (d : List ℤ) (q : List ℕ) {a e : List ℕ} {i j : ℕ} → k ≡ l → k′ ≡ l′ → i ≡ n → j ≡ m
     → a ≡ table (gradientIn 1 (part 0 k d)) i → e ≡ table (gradientIn s (part at k′ d)) j
-    → take n (a ++ q) ++ (e ++ drop (length (a ++ q) - n) (drop n (a ++ q))) ≡ table (gradientIn 1 (part 0 l d)) n ++ table (gradientIn s (part to l′ d)) m
-whole s m n k l k′ l′ at to d q {a} {e} h h′ f i j p r = placed-rest n a q e (ap length p ∙ length-table _ _ ∙ i) ∙ rw (p, r, h, h′, f, i, j)
+    → take n (a ++ q) ++ (e ++ drop (length (a ++ q) - n) (drop n (a ++ q))) ≡ table (gradientIn 1 (part 0 l d)) n ++ table (gradientIn s (part at l′ d)) m
+whole s m n k l k′ l′ at d q {a} {e} h h′ i j p r = placed-rest n a q e (ap length p ∙ length-table _ _ ∙ i) ∙ rw (p, r, h, h′, i, j)
 
 returns : tie.Need-returns
 returns c =
     let e₂ = c .before .before in
     let e₁ = e₂ .before .before .before .before .before in
     let a = e₁ .before .before .before .before .args in
-    whole (a .s) (a .m + 4 * a .s) (a .m + 2 * a .s - 2) (a .m + 2 * a .s - 0) (a .m + 2 * a .s)
-    (a .m + 2 * a .s + a .s + (a .m + 6 * a .s) - (a .m + 2 * a .s + a .s)) (a .m + 6 * a .s) (a .m + 2 * a .s + a .s) (a .m + 3 * a .s) (a .d .now) _
-    (omega arith) (omega arith) (omega arith) (omega arith) (omega arith) (e₁ .gradients .ensures) (e₂ .gradients2 .ensures)
+    whole (a .s) (a .m + 4 * a .s) (a .m + 2 * a .s - 4) (a .m + 2 * a .s - 0) (a .m + 2 * a .s)
+    (length (a .d .now) - (a .m + 2 * a .s)) (a .m + 8 * a .s) (a .m + 2 * a .s) (a .d .now) _
+    (omega arith) (omega arith) (omega arith) (omega arith) (e₁ .gradients .ensures) (e₂ .gradients2 .ensures)
 
 pub all-gradients-spec : {M : Type 1} → statement M
 all-gradients-spec =
@@ -106,10 +103,6 @@ all-gradients-spec =
     (tie.spec
     mul-dh-len
     add-dh-len
-    add-at
-    mul-end
-    add-end
-    add-end-2
     sub-gh-len
     sub-gradients
     part-gradients-start

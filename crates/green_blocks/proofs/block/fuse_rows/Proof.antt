@@ -24,19 +24,19 @@ rows ws x w s odd dh dv gh gv = greenRowIn scale ws w s odd x dh dv gh gv
 row-length : (ws x : List ℕ) (w s odd : ℕ) (dh dv : List ℤ) (gh gv : List ℕ) (i : ℕ) → length (rows ws x w s odd dh dv gh gv i) ≡ w
 row-length ws x w s odd dh dv gh gv i = length-table _ w
 
--- the gradients along the rows lack two at the end
-short : (n m s w : ℕ) → w + 14 ≤ s → n + s ≤ m → n + (3 * s - 2) ≤ m + 2 * s - 2
+-- the gradients along the rows lack four at the end
+short : (n m s w : ℕ) → w + 14 ≤ s → n + s ≤ m → n + (3 * s - 4) ≤ m + 2 * s - 4
 short n m s w g h = omega arith
 
-three : (s w : ℕ) → w + 14 ≤ s → 3 * s - 2 + 2 ≡ 3 * s
+three : (s w : ℕ) → w + 14 ≤ s → 3 * s - 4 + 4 ≡ 3 * s
 three s w h = omega arith
 
 -- what row i is handed
 row-same : (ws x : List ℕ) (dh dv : List ℤ) (gh gv : List ℕ) (w s odd i : ℕ) {n o : ℕ} → n ≡ w → o ≡ (odd + i) % 2
     → table (greenIn scale ws s o (take (i * w + w - i * w) (drop (i * w) x))
-    (take (i * s + 3 * s - i * s) (drop (i * s) dh)) (take (i * s + 9 * s - i * s) (drop (i * s) dv)) (take (i * s + (3 * s - 2) - i * s) (drop (i * s) gh)) (take (i * s + 5 * s - i * s) (drop (i * s) gv))) n
+    (take (i * s + 3 * s - i * s) (drop (i * s) dh)) (take (i * s + 9 * s - i * s) (drop (i * s) dv)) (take (i * s + (3 * s - 4) - i * s) (drop (i * s) gh)) (take (i * s + 5 * s - i * s) (drop (i * s) gv))) n
     ≡ rows ws x w s odd dh dv gh gv i
-row-same ws x dh dv gh gv w s odd i e h = rw (e, h, row-is w i x refl, add-sub-cancel-left (i * s) (3 * s), add-sub-cancel-left (i * s) (9 * s), add-sub-cancel-left (i * s) (3 * s - 2), add-sub-cancel-left (i * s) (5 * s))
+row-same ws x dh dv gh gv w s odd i e h = rw (e, h, row-is w i x refl, add-sub-cancel-left (i * s) (3 * s), add-sub-cancel-left (i * s) (9 * s), add-sub-cancel-left (i * s) (3 * s - 4), add-sub-cancel-left (i * s) (5 * s))
 
 abbrev Inv-loop : tie.InvT-loop
 Inv-loop ws x w b s odd dh dv gh gv t₀ f₀ out₀ i₀ t f out i =
@@ -184,7 +184,7 @@ fuse-requires c κs =
     let lo = part-length (l .i * a .w) (a .w) (l .out) (omega (arith, inside k .0)) in
     let l₁ = part-length (l .i * a .s) (3 * a .s) (a .dh .now) (omega (arith, inside k .1)) in
     let l₂ = part-length (l .i * a .s) (9 * a .s) (a .dv .now) (omega (arith, inside k .1)) in
-    let l₃ = part-length (l .i * a .s) (3 * a .s - 2) (a .gh .now) (rw (q .pre .1 .0 .2) (short (l .i * a .s) (a .b * a .s) (a .s) (a .w) (q .pre .0 .4) (inside k .1))) in
+    let l₃ = part-length (l .i * a .s) (3 * a .s - 4) (a .gh .now) (rw (q .pre .1 .0 .2) (short (l .i * a .s) (a .b * a .s) (a .s) (a .w) (q .pre .0 .4) (inside k .1))) in
     let l₄ = part-length (l .i * a .s) (5 * a .s) (a .gv .now) (omega (arith, inside k .1)) in
     rw (lx, lo, l₁, l₂, l₃, l₄) (
       (omega arith, all-part (λ n. n ≤ 4095) 0 (omega arith) (l .i * a .w) (l .i * a .w + a .w - l .i * a .w) (a .x .now) (q .pre .0 .1), refl, q .pre .0 .7, q .pre .0 .8),
@@ -194,7 +194,7 @@ fuse-requires c κs =
           (
             all-part P (pos 0) (omega arith) (l .i * a .s) (l .i * a .s + 3 * a .s - l .i * a .s) (a .dh .now) (q .pre .1 .1 .0),
             all-part P (pos 0) (omega arith) (l .i * a .s) (l .i * a .s + 9 * a .s - l .i * a .s) (a .dv .now) (q .pre .1 .1 .1),
-            all-part N 0 (omega arith) (l .i * a .s) (l .i * a .s + (3 * a .s - 2) - l .i * a .s) (a .gh .now) (q .pre .1 .1 .2),
+            all-part N 0 (omega arith) (l .i * a .s) (l .i * a .s + (3 * a .s - 4) - l .i * a .s) (a .gh .now) (q .pre .1 .1 .2),
             all-part N 0 (omega arith) (l .i * a .s) (l .i * a .s + 5 * a .s - l .i * a .s) (a .gv .now) (q .pre .1 .1 .3),
           ),
           (l .inv .2 ∙ q .pre .1 .0 .4, l .inv .3 ∙ q .pre .1 .0 .5),

@@ -7,7 +7,7 @@ use lib.ListN.{length}
 use Rattle.bayer.proofs.ParityLaws.{starts-below}
 use Rattle.gbtf.specs.Weights.{scale, evenWeights}
 use Rattle.green_rule.specs.Greens.{greens}
-use Rattle.green_blocks.proofs.GreenBlock.{BlockBuffers, gradients-length, block-start, block-end, block-fused, ready}
+use Rattle.green_blocks.proofs.GreenBlock.{both-within, BlockBuffers, gradients-length, block-start, block-end, block-fused, ready}
 use Rattle.green_blocks.proofs.block.green_block.Statement.{statement}
 use Rattle.green_blocks.proofs.block.green_block.Tie as tie
 
@@ -47,8 +47,11 @@ all-differences-requires c κs =
 
 all-gradients-requires : tie.Need-all-gradients-requires
 all-gradients-requires c κs =
-    let q = entry (started (fetched (c .before .before .before))) in
-    omega (arith, narrow q, size q)
+    let e = c .before .before .before in
+    let r = fetched e in
+    let q = entry (started r) in
+    let a = q .args in
+    (omega (arith, narrow q, size q), both-within (a .frame) (a .start) (a .piece .now) (a .v) (a .b) (a .s) (a .b * a .s) (started r .starts-green .result) (r .fetch .ensures) (q .pre .0 .3) (e .all-differences .ensures))
 
 -- what is known when the gradients are there
 module _ (c : tie.After-slice-known6) where

@@ -115,7 +115,7 @@ green-block-requires c κs =
         (
           first-length (q .args .x .now) (m + 12 * s) (omega (arith, small q .0)) refl,
           first-length (q .args .d .now) (2 * m + 10 * s) (omega (arith, small q .0)) (omega arith),
-          first-length (q .args .g .now) (2 * m + 6 * s - 2) (omega (arith, small q .0)) (omega arith),
+          first-length (q .args .g .now) (2 * m + 6 * s - 4) (omega (arith, small q .0)) (omega arith),
         ),
       ),
     )

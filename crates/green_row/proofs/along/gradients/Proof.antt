@@ -1,12 +1,10 @@
 -- `green_row::along::gradients` meets its contract. Assumes nothing.
-use Prim.Native.Nat.{_+_, _-_, _*_, _≤_}
+use Prim.Native.Nat.{_-_, _≤_}
 use native.Mathlib.Omega.{arith}
-use mathlib.Core.Path.{refl, ap₂, _∙_}
+use mathlib.Core.Path.{refl, _∙_}
 use lib.ListN.{length}
 use Rattle.lists.proofs.TableLaws.{Filled, table-none, table-turn, table-done}
-use Rattle.gbtf.specs.Difference.{gradient}
 use Rattle.green_row.specs.AlongAxis.{gradientIn}
-use Rattle.green_row.proofs.ReadLaws.{read-at}
 use Rattle.green_row.proofs.along.gradients.Statement.{statement}
 use Rattle.green_row.proofs.along.gradients.Tie as tie
 
@@ -19,26 +17,8 @@ abbrev μ-loop : tie.MeasureT-loop
 loop-holds : tie.Need-loop-holds Inv-loop μ-loop
 loop-holds c = (omega arith, (table-none _ _, refl))
 
-mul-gradient : tie.Need-mul-gradient Inv-loop μ-loop
-mul-gradient c = omega arith
-
-shared-slice-copy-out-gradient : tie.Need-shared-slice-copy-out-gradient Inv-loop μ-loop
-shared-slice-copy-out-gradient c = omega arith
-
-mul-gradient-2 : tie.Need-mul-gradient-2 Inv-loop μ-loop
-mul-gradient-2 c = omega arith
-
-add-gradient : tie.Need-add-gradient Inv-loop μ-loop
-add-gradient c = omega arith
-
-mul-gradient-3 : tie.Need-mul-gradient-3 Inv-loop μ-loop
-mul-gradient-3 c = omega arith
-
-shared-slice-copy-out-gradient-2 : tie.Need-shared-slice-copy-out-gradient-2 Inv-loop μ-loop
-shared-slice-copy-out-gradient-2 c = omega arith
-
-gradient-requires : tie.Need-gradient-requires Inv-loop μ-loop
-gradient-requires c κs = tt
+gradient-at-requires : tie.Need-gradient-at-requires Inv-loop μ-loop
+gradient-at-requires c κs = (omega arith, c .before .before .before .pre .1)
 
 mul-out : tie.Need-mul-out Inv-loop μ-loop
 mul-out c = omega arith
@@ -54,11 +34,8 @@ loop-less c = omega arith
 
 loop-again : tie.Need-loop-again Inv-loop μ-loop
 loop-again c =
-    let l = c .before .before .before .before .loop in
-    let a = c .before .before .before .before .before .before .args in
-    let d = a .d .now in
-    let e = c .gradient .ensures ∙ ap₂ gradient (read-at d (l .k) refl (c .before .before .gradient-arg .given)) (read-at d (l .k + 2 * a .step) refl (c .before .gradient-arg2 .given)) in
-    (omega arith, table-turn _ (l .k) _ (omega arith) (l .inv .1) e)
+    let l = c .before .before .loop in
+    (omega arith, table-turn _ (l .k) _ (omega arith) (l .inv .1) (c .gradient-at .ensures))
 
 same-length : tie.Need-same-length Inv-loop μ-loop
 same-length c = omega arith
@@ -75,13 +52,7 @@ gradients-spec =
     Inv-loop
     μ-loop
     loop-holds
-    mul-gradient
-    shared-slice-copy-out-gradient
-    mul-gradient-2
-    add-gradient
-    mul-gradient-3
-    shared-slice-copy-out-gradient-2
-    gradient-requires
+    gradient-at-requires
     mul-out
     slice-write-out
     add-k

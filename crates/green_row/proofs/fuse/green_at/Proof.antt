@@ -1,10 +1,11 @@
 -- `green_row::fuse::green_at` meets its contract. Assumes nothing.
-use Prim.Native.Nat.{ℕ, _+_, _*_}
+use Prim.Native.Nat.{ℕ, _+_, _*_, _<_}
 use native.Mathlib.Omega.{arith}
 use mathlib.Core.Path.{_≡_, sym, subst, _∙_}
+use lib.Dec.{lit<}
 use Rattle.gbtf.specs.declared.direction.Direction.{Direction}
 use Rattle.gbtf.specs.Machine.{Fitting}
-use Rattle.gbtf.specs.Weights.{scale}
+use Rattle.gbtf.specs.Bounds.{mostSum}
 use Rattle.gbtf.proofs.MachineBounds.{fitting}
 use Rattle.green_row.specs.Directions.{directionFrom}
 use Rattle.green_row.specs.GreenIn.{fusedBy}
@@ -25,8 +26,8 @@ direction-at-requires-4 : tie.Need-direction-at-requires-4
 direction-at-requires-4 c κs = search needs
 
 -- what stands in t and f keeps inside 64 bits
-fits : (c : tie.Start) (k : ℕ) {d : Direction} → d ≡ directionFrom (c .args .w) (c .args .t .now) (c .args .f .now) (c .args .j) k → Fitting scale d
-fits c k e = subst (Fitting scale) (sym e) (fitting _ (c .pre .4 (k * c .args .w + c .args .j)) (c .pre .3 (k * c .args .w + c .args .j)))
+fits : (c : tie.Start) (k : ℕ) {K : ℕ} {d : Direction} → K * (mostSum * mostSum) < 18446744073709551616 → d ≡ directionFrom (c .args .w) (c .args .t .now) (c .args .f .now) (c .args .j) k → Fitting K d
+fits c k {K} h e = subst (Fitting K) (sym e) (fitting h _ (c .pre .4 (k * c .args .w + c .args .j)) (c .pre .3 (k * c .args .w + c .args .j)))
 
 green-requires : tie.Need-green-requires
 green-requires c κs =
@@ -34,7 +35,7 @@ green-requires c κs =
     let c₂ = c₃ .before in
     let c₁ = c₂ .before in
     let s = c₁ .before .before in
-    ((omega arith, omega arith, omega arith), (fits s 0 (c₁ .direction-at .ensures), fits s 1 (c₂ .direction-at2 .ensures), fits s 2 (c₃ .direction-at3 .ensures), fits s 3 (c .direction-at4 .ensures)))
+    ((omega arith, omega arith, omega arith), (fits s 0 (lit< tt) (c₁ .direction-at .ensures), fits s 1 (lit< tt) (c₂ .direction-at2 .ensures), fits s 2 (lit< tt) (c₃ .direction-at3 .ensures), fits s 3 (lit< tt) (c .direction-at4 .ensures)))
 
 returns : tie.Need-returns
 unfolding fusedBy

@@ -1,4 +1,4 @@
--- The figure 51 cannot become 50: a frame whose green is more than 50 hundredths away from the exact reconstruction, by computation; and a strip call delivers it. Assumes nothing.
+-- The figure 53 cannot become 51: a frame whose green is more than 51 hundredths away from the exact reconstruction, by computation; and a strip call delivers it. Assumes nothing.
 use mathlib.Core.Path.{_≡_, refl, _∙_, ap, subst}
 use Prim.Native.Nat.{ℕ}
 use lib.Dec.{le→leb, lit≤}
@@ -23,21 +23,21 @@ use Rattle.demosaic.proofs.PlaneRowsLaws.{plane-at}
 use Rattle.strip.specs.Strip.{asked, stripNumber, Promise}
 use Rattle.strip.proofs.Demand2.{accepted-plane}
 use Rattle.figures.specs.Figures.{frame8}
-use Rattle.figures.specs.Sharpness.{readings50}
+use Rattle.figures.specs.Sharpness.{readings51}
 
-pub not-50 : Within (natural (sample frame8 0 readings50 Green 2 2)) (exactSample frame8 0 readings50 Green 2 2) 50 100 → ⊥
+pub not-51 : Within (natural (sample frame8 0 readings51 Green 2 2)) (exactSample frame8 0 readings51 Green 2 2) 51 100 → ⊥
 unfolding colours colourAt mirror rowOf difference fusion green DH DV GH GV greenAt greens sumOver/t² exactGreen exactGreenAt exactGreens sample exactSample
-not-50 h = le→leb _ _ (h .low)
+not-51 h = le→leb _ _ (h .low)
 
 -- a strip call over the whole frame accepts it
-pub accepted-50 : stripNumber (asked frame8 0 8 readings50) 64 64 64 ≡ 0
+pub accepted-51 : stripNumber (asked frame8 0 8 readings51) 64 64 64 ≡ 0
 unfolding firstOf any stripNumber
-accepted-50 = refl
+accepted-51 = refl
 
 -- and if it keeps the contract, it delivers that green
-pub delivered-50 : (lent after : Planes) (answer : ℕ) → ((k : Colour) → length (lent k) ≡ 64) → Promise (asked frame8 0 8 readings50) lent answer after
-    → (answer ≡ 0) × (Within (natural (getD (after Green) 18 0)) (exactSample frame8 0 readings50 Green 2 2) 50 100 → ⊥)
-delivered-50 lent after answer h p =
-    let e : answer ≡ 0 = p .number ∙ rw (h Red, h Green, h Blue) accepted-50 in
-    let v : getD (after Green) 18 0 ≡ sample frame8 0 readings50 Green 2 2 = ap (λ l. getD l 18 0) (accepted-plane p e Green) ∙ plane-at frame8 0 readings50 0 8 Green 2 2 (lit≤ tt) (lit≤ tt) in
-    (e, λ w. not-50 (subst (λ x. Within (natural x) (exactSample frame8 0 readings50 Green 2 2) 50 100) v w))
+pub delivered-51 : (lent after : Planes) (answer : ℕ) → ((k : Colour) → length (lent k) ≡ 64) → Promise (asked frame8 0 8 readings51) lent answer after
+    → (answer ≡ 0) × (Within (natural (getD (after Green) 18 0)) (exactSample frame8 0 readings51 Green 2 2) 51 100 → ⊥)
+delivered-51 lent after answer h p =
+    let e : answer ≡ 0 = p .number ∙ rw (h Red, h Green, h Blue) accepted-51 in
+    let v : getD (after Green) 18 0 ≡ sample frame8 0 readings51 Green 2 2 = ap (λ l. getD l 18 0) (accepted-plane p e Green) ∙ plane-at frame8 0 readings51 0 8 Green 2 2 (lit≤ tt) (lit≤ tt) in
+    (e, λ w. not-51 (subst (λ x. Within (natural x) (exactSample frame8 0 readings51 Green 2 2) 51 100) v w))
