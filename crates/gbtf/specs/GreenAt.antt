@@ -19,7 +19,7 @@ differenceAlong green x k = difference (green k) (x k) (x (k -ℤ pos 1)) (x (k 
 abbrev pub plainGradientAlong : (D : ℤ → ℤ) → ℤ → ℕ
 plainGradientAlong D k = plainGradient (D (k -ℤ pos 1)) (D (k +ℤ pos 1))
 
--- and a pixel's gradient, as the authors' code has it (source 000, Algorithm 3; document 02's words decide): the sum of three plain ones, at the pixel and its two neighbours along the line
+-- and a pixel's gradient, as the authors' code has it: the sum of three plain ones, at the pixel and its two neighbours along the line (source 000, equations 35 and 36; its Algorithm 3 prints the sum across, and document 02 decides)
 abbrev pub gradientAlong : (D : ℤ → ℤ) → ℤ → ℕ
 gradientAlong D k = plainGradientAlong D (k -ℤ pos 1) + plainGradientAlong D k + plainGradientAlong D (k +ℤ pos 1)
 

@@ -3,10 +3,19 @@ ghost use Prim.Native.Nat.{_+_, _*_, _≤_, _<_};
 ghost use lib.ListN.{length};
 ghost use Rattle.lists.specs.Table.{table};
 ghost use Rattle.lists.specs.Bound.{AllWithin};
+ghost use Rattle.bayer.specs.Parity.{isOdd};
 ghost use Rattle.gbtf.specs.Bounds.{mostDifference, mostPlainGradient};
 ghost use Rattle.green_row.specs.AlongAxis.{differenceIn, plainGradientIn, gradientIn};
 use gbtf::difference::difference;
 use gbtf::difference::plain_gradient;
+
+// Whether k + odd is odd, worked out in the 32 bits of a difference: the compiler then handles as many places at a time as it does differences.
+fn is_odd(k: usize, odd: usize) -> bool
+    requires { ⌜ odd < 2 ⌝ }
+    ensures { λ r. ⌜ r ≡ isOdd (k + odd) ⌝ }
+{
+    ((k % 2) as u32 + odd as u32) % 2 == 1
+}
 
 // The difference at place k + 2 * step of x.
 fn difference_at(x: &[u16], step: usize, odd: usize, k: usize) -> i32
@@ -14,7 +23,7 @@ fn difference_at(x: &[u16], step: usize, odd: usize, k: usize) -> i32
     ensures { λ d. ⌜ d ≡ differenceIn step odd (now (x .entry)) k ⌝ }
 {
     difference(
-        (k + odd) % 2 == 1,
+        is_odd(k, odd),
         x[k + 2 * step],
         x[k + step],
         x[k + 3 * step],

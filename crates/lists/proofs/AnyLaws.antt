@@ -16,23 +16,6 @@ use Rattle.lists.specs.Any.{any}
 use Rattle.lists.specs.Table.{table, joined}
 use Rattle.lists.specs.Bound.{AllAtMost, anyAbove}
 
--- ---- from a place on
-
-module _ {A : Type 0} (p : A → Bool) (l : List A) (i : ℕ) where
-  pub any-next : (d : A) → i < length l → p (getD l i d) ≡ false → any p (drop i l) ≡ any p (drop (i + 1) l)
-  unfolding any
-  any-next d h e = rw (add-one i, drop-cons l i d h, e)
-
-  pub any-stop : (d : A) → i < length l → p (getD l i d) ≡ true → any p (drop i l) ≡ true
-  unfolding any
-  any-stop d h e = rw (drop-cons l i d h, e)
-
-  pub any-end : length l ≤ i → any p (drop i l) ≡ false
-  unfolding any
-  any-end h = rw (drop-of-length-le l {i = i} h)
-
--- ---- up to a place of a list that is given by a rule
-
 or-assoc : (a b c : Bool) → a || (b || c) ≡ (a || b) || c
 or-assoc true b c = refl
 or-assoc false b c = refl
@@ -44,6 +27,19 @@ or-true false = refl
 or-false : (a : Bool) → a || false ≡ a
 or-false true = refl
 or-false false = refl
+
+-- ---- b: whether some element before place i passes
+
+module _ {A : Type 0} (p : A → Bool) (l : List A) (i : ℕ) (b : Bool) where
+  pub any-next : (d : A) → i < length l → b || any p (drop i l) ≡ (b || p (getD l i d)) || any p (drop (i + 1) l)
+  unfolding any
+  any-next d h = rw (add-one i, drop-cons l i d h) (or-assoc b (p (getD l i d)) (any p (drop (suc i) l)))
+
+  pub any-end : length l ≤ i → b || any p (drop i l) ≡ b
+  unfolding any
+  any-end h = rw (drop-of-length-le l {i = i} h) (or-false b)
+
+-- ---- up to a place of a list that is given by a rule
 
 -- b n: whether some place before n passes; q i: whether place i does
 module _ (b q : ℕ → Bool) (start : b 0 ≡ false) (next : (n : ℕ) → b (n + 1) ≡ b n || q n) where

@@ -1,16 +1,15 @@
 ghost use mathlib.Core.Path.{_≡_};
 ghost use Rattle.lists.specs.Bound.{anyAbove};
 
-// Whether some entry is above the limit.
+// Whether some entry is above the limit. The loop goes to the end, so that the compiler handles several entries at a time.
 pub fn any_above(limit: u16, s: &[u16]) -> bool
     ensures { λ r. ⌜ r ≡ anyAbove limit (now (s .entry)) ⌝ }
 {
+    let mut found = false;
     let mut i = 0;
     while i < s.len() {
-        if limit < s[i] {
-            return true;
-        }
+        found = found | (limit < s[i]);
         i += 1;
     }
-    false
+    found
 }
