@@ -1,18 +1,43 @@
--- Document 01's own forms of the five-sum, of fusion and of green, with the share scale of document 02. Assumes nothing.
+-- The papers' own forms: of the gradient, source 000's; of the five-sum, of fusion and of green, document 01's, with the share scale of document 02. Assumes nothing.
 use mathlib.Core.Path.{_≡_, _∙_, ap, ap₂}
 use mathlib.Core.Bool.{false}
 use mathlib.Core.List.{[], _∷_}
 use Prim.Native.Nat.{ℕ, _+_, _*_, _/_, _^_, min, max}
 use native.Mathlib.Omega.{arith}
-use lib.IntN.{ℤ, pos, _+ℤ_, _-ℤ_, _*ℤ_}
+use lib.IntN.{ℤ, pos, natAbs, _+ℤ_, _-ℤ_, _*ℤ_}
 use Rattle.whole.specs.Floor.{floorDiv}
 use Rattle.whole.specs.Clamp.{clamp}
-use Rattle.whole.proofs.Pairs.{anyₚ, natₚ, _+ₚ_, _*ₚ_, eq-by}
+use Rattle.whole.proofs.Pairs.{anyₚ, natₚ, _+ₚ_, _-ₚ_, _*ₚ_, eq-by}
 use Rattle.bayer.specs.Mosaic.{Mosaic, isGreen}
 use Rattle.gbtf.specs.declared.direction.Direction.{Direction}
 use Rattle.gbtf.specs.Direction.{directionSum, fiveSum, guardedSum}
 use Rattle.gbtf.specs.Fusion.{smallestSum, share, fusion, green}
-use Rattle.gbtf.specs.GreenAt.{DH, DV, GH, GV, window, greenAt}
+use Rattle.gbtf.specs.GreenAt.{gradientAlong, DH, DV, GH, GV, window, greenAt}
+
+-- source 000's equations 35 and 36, written out: a gradient from five differences along a line
+gradient-five : (D : ℤ → ℤ) (k : ℤ) → gradientAlong D k ≡ natAbs (D (k -ℤ pos 2) -ℤ D k) + natAbs (D (k -ℤ pos 1) -ℤ D (k +ℤ pos 1)) + natAbs (D k -ℤ D (k +ℤ pos 2))
+gradient-five D k = λ t. natAbs (D (back-two t) -ℤ D (back-again t)) + natAbs (D (k -ℤ pos 1) -ℤ D (k +ℤ pos 1)) + natAbs (D (on-again t) -ℤ D (on-two t))
+  where
+    back-two : k -ℤ pos 1 -ℤ pos 1 ≡ k -ℤ pos 2
+    back-two = eq-by (anyₚ k -ₚ natₚ 1 -ₚ natₚ 1) (anyₚ k -ₚ natₚ 2) (omega arith)
+
+    back-again : k -ℤ pos 1 +ℤ pos 1 ≡ k
+    back-again = eq-by (anyₚ k -ₚ natₚ 1 +ₚ natₚ 1) (anyₚ k) (omega arith)
+
+    on-again : k +ℤ pos 1 -ℤ pos 1 ≡ k
+    on-again = eq-by (anyₚ k +ₚ natₚ 1 -ₚ natₚ 1) (anyₚ k) (omega arith)
+
+    on-two : k +ℤ pos 1 +ℤ pos 1 ≡ k +ℤ pos 2
+    on-two = eq-by (anyₚ k +ₚ natₚ 1 +ₚ natₚ 1) (anyₚ k +ₚ natₚ 2) (omega arith)
+
+module _ (x : Mosaic) (i j : ℤ) where
+  pub GH-printed : GH x i j ≡ natAbs (DH x i (j -ℤ pos 2) -ℤ DH x i j) + natAbs (DH x i (j -ℤ pos 1) -ℤ DH x i (j +ℤ pos 1)) + natAbs (DH x i j -ℤ DH x i (j +ℤ pos 2))
+  unfolding GH
+  GH-printed = gradient-five (λ k. DH x i k) j
+
+  pub GV-printed : GV x i j ≡ natAbs (DV x (i -ℤ pos 2) j -ℤ DV x i j) + natAbs (DV x (i -ℤ pos 1) j -ℤ DV x (i +ℤ pos 1) j) + natAbs (DV x i j -ℤ DV x (i +ℤ pos 2) j)
+  unfolding GV
+  GV-printed = gradient-five (λ k. DV x k j) i
 
 pub five-sum-even : (D : ℕ → ℤ) → fiveSum (1 ∷ 1 ∷ 1 ∷ 1 ∷ 1 ∷ []) D ≡ D 0 +ℤ D 1 +ℤ D 2 +ℤ D 3 +ℤ D 4
 five-sum-even D =

@@ -1,11 +1,7 @@
 -- `green_row::along::difference_at` meets its contract. Assumes nothing.
-use Prim.Native.Nat.{_+_, _*_}
 use native.Mathlib.Omega.{arith}
-use mathlib.Core.Path.{ap, _∙_}
-use lib.ListN.{getD}
 use mir.Syntax.{w32}
 use Rattle.whole.proofs.Signed.{read-result}
-use Rattle.gbtf.specs.Difference.{difference}
 use Rattle.green_row.proofs.along.difference_at.Statement.{statement}
 use Rattle.green_row.proofs.along.difference_at.Tie as tie
 
@@ -69,11 +65,7 @@ difference-requires c κs = tt
 returns : tie.Need-returns
 returns c =
     let o = c .before .before .before .before .before .before in
-    let a = o .before .before .args in
-    let x = a .x .now in
-    let s = a .step in
-    read-result w32 _ (c .difference .ok)
-    (c .difference .ensures .0 ∙ ap (λ g. difference g (getD x (a .k + 2 * s) 0) (getD x (a .k + s) 0) (getD x (a .k + 3 * s) 0) (getD x (a .k) 0) (getD x (a .k + 4 * s) 0)) (o .is-odd .ensures))
+    read-result w32 _ (c .difference .ok) (rw (o .is-odd .ensures) at (c .difference .ensures .0))
 
 pub difference-at-spec : {M : Type 1} → statement M
 difference-at-spec =

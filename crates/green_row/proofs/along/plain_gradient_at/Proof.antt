@@ -9,24 +9,6 @@ use Rattle.green_row.proofs.along.plain_gradient_at.Statement.{statemen
 use Rattle.green_row.proofs.along.plain_gradient_at.Tie as tie
 use borrow.Author.Needs.{needs}
 
-mul-plain-gradient : tie.Need-mul-plain-gradient
-mul-plain-gradient c = search needs
-
-shared-slice-copy-out-plain-gradient : tie.Need-shared-slice-copy-out-plain-gradient
-shared-slice-copy-out-plain-gradient c = search needs
-
-mul-plain-gradient-2 : tie.Need-mul-plain-gradient-2
-mul-plain-gradient-2 c = search needs
-
-add-plain-gradient : tie.Need-add-plain-gradient
-add-plain-gradient c = search needs
-
-mul-plain-gradient-3 : tie.Need-mul-plain-gradient-3
-mul-plain-gradient-3 c = search needs
-
-shared-slice-copy-out-plain-gradient-2 : tie.Need-shared-slice-copy-out-plain-gradient-2
-shared-slice-copy-out-plain-gradient-2 c = search needs
-
 plain-gradient-requires : tie.Need-plain-gradient-requires
 plain-gradient-requires c κs =
     let s = c .before .before in
@@ -45,15 +27,16 @@ returns c =
       c .plain-gradient .ensures .1,
     )
 
+-- where the two are read is found to lie in d
 pub plain-gradient-at-spec : {M : Type 1} → statement M
 plain-gradient-at-spec =
     tie.close
     (tie.spec
-    mul-plain-gradient
-    shared-slice-copy-out-plain-gradient
-    mul-plain-gradient-2
-    add-plain-gradient
-    mul-plain-gradient-3
-    shared-slice-copy-out-plain-gradient-2
+    (λ c. search needs)
+    (λ c. search needs)
+    (λ c. search needs)
+    (λ c. search needs)
+    (λ c. search needs)
+    (λ c. search needs)
     plain-gradient-requires
     returns)
