@@ -632,10 +632,23 @@ class Test(unittest.TestCase):
         for words in ((2 ** 32, 8, 8, 0), (-1, 8, 8, 0), (0, 8, "x", 0), (0, 8, 8), ("", 8, 8, 0)):
             self.assertEqual(self.run_seed(*words), (2, b"", None))
 
+    def example(self):
+        """What the README's C example prints, by reference.py: a test frame, one strip of it and the strip's mosaic back."""
+        mosaic, planes = [0] * 320, [[0] * 32 for _ in range(3)]
+        first, last = reference.strip_rows(20, 9, 2)
+        numbers = reference.walk(RULES, 0, 16, 20, mosaic), reference.strip_call(RULES, reference.Frame(16, 20, 0), 9, 2, mosaic[16 * first:16 * last], planes)
+        self.assertEqual(numbers, (0, 0))
+        return ["0 %d" % mosaic[0], "0 %d %d %d" % tuple(plane[0] for plane in planes), "0 %d %d" % (mosaic[144], mosaic[144])]
+
     def test_readme(self):
-        """The README's C, Python, picture and frame file examples do what it says."""
+        """The README's C, Python, picture and frame file examples do what it says, and its printed lines are the committed ones."""
         with open(os.path.join(ROOT, "README.md")) as file:
             lines = [line[4:] for line in file if line.startswith("    ") or line == "\n"]
+        printed = self.example()
+        self.assertTrue(any(line.endswith("# %s, then %s, then %s\n" % tuple(printed)) for line in lines))
+        for crate in "planes", "test_planes":
+            with open(os.path.join(ROOT, "crates", crate, "stdout")) as file:
+                self.assertIn(file.read(), "".join(lines))
         first = lines.index("#include <stdio.h>\n")
         program = "".join(lines[first:lines.index("}\n", first) + 1])
         first = next(k for k, line in enumerate(lines) if line.startswith("import sys"))
@@ -647,7 +660,7 @@ class Test(unittest.TestCase):
                 file.write(program)
             library = os.path.join(ROOT, "target", "lib", "librokzimp.a")
             subprocess.run(["gcc", "-I", os.path.join(ROOT, "include"), "-o", binary, source, library], check=True)
-            self.assertEqual(subprocess.run([binary], capture_output=True, check=True).stdout, b"0 966\n0 31948 20416 27624\n0 1276 1276\n")
+            self.assertEqual(subprocess.run([binary], capture_output=True, check=True).stdout.decode().splitlines(), printed)
             ran = subprocess.run([sys.executable, "-c", script], capture_output=True, check=True, cwd=ROOT)
             self.assertEqual(ran.stdout, b"966 True\nTrue\n7 no such row\n")
             frame = os.path.join(ROOT, "crates", "planes", "stdin")
