@@ -1,14 +1,16 @@
 #!/usr/bin/env python3
 """Writes crates/figures/specs/WorkedPlanes.antt and WorkedExact.antt: tables of what the written rules must give.
 
-    python3 tools/make_figures.py SEED [DIRECTORY]     the committed files: SEED 2
+    python3 tools/make_figures.py SEED [DIRECTORY]     the committed files: SEED 38
 
 The values come from reference/ and from nothing else; the stage is tools/stage.py's. Each layout has a frame. A part of it is quiet, so that
-direction sums lie about the guard, a part is mild, and a part is wild, so that samples are stopped.
+direction sums lie about the guard, a part is mild, and a part is wild, so that samples are stopped. A seed is taken only if the
+exact table has every kind of place, and if a guard one less or one more would change some green.
 """
 import os
 import random
 import sys
+import unittest.mock
 
 from stage import ROOT, RULES, STAGE
 import reference as r
@@ -102,9 +104,20 @@ def claim(name, kind, value):
     return ['', 'abbrev pub %s : %s' % (name, kind), '%s = %s' % (name, value)]
 
 
+def guard_shows(frames, value):
+    """Whether some green would be another with this guard."""
+    def greens():
+        return [r.whole(RULES, r.Frame(*FRAMES[layout][:2], layout), frame)[r.G] for layout, frame in enumerate(frames)]
+    wanted = greens()
+    with unittest.mock.patch.object(r, 'guard', lambda s: max(s, value)):
+        return greens() != wanted
+
+
 def make(seed, directory):
     g = random.Random(seed)
     frames = [readings(g, layout) for layout in range(4)]        # before the places, so that no stage changes them
+    for value in 3, 5:
+        assert guard_shows(frames, value), 'no green of this seed tells a guard of 4 from one of %d' % value
     planes = head('Frames, one of each layout, and their planes by the whole-number rules. proofs/PlaneTable.antt has the theorem.', seed) + [
         'use Prim.Native.Nat.{ℕ}',
         'use mathlib.Core.List.{List, [], _∷_}',
