@@ -5,7 +5,7 @@ ghost use lib.IntN.{pos, natAbs, _+ℤ_, _*ℤ_};
 ghost use Rattle.whole.specs.Floor.{floorDiv};
 ghost use Rattle.gbtf.specs.Direction.{guardedSum};
 ghost use Rattle.gbtf.specs.Fusion.{smallestSum, share, fusion, green};
-ghost use Rattle.gbtf.specs.Machine.{Fitting};
+ghost use Rattle.gbtf.specs.Machine.{mostShare, Fitting};
 use crate::direction::Direction;
 use crate::direction::guard;
 
@@ -35,15 +35,15 @@ fn share(k: u64, m: u64, t: u64) -> u64
 
 // The share of a direction.
 fn share_of(k: u64, m: u64, d: Direction) -> u64
-    requires { ⌜ (0 < k) × (k ≤ 134217728) × (m ≤ guardedSum d) × (Fitting k d) ⌝ }
-    ensures { λ q. ⌜ (q ≡ share k m (guardedSum d)) × (q ≤ 134217728) ⌝ }
+    requires { ⌜ (0 < k) × (k ≤ mostShare) × (m ≤ guardedSum d) × (Fitting k d) ⌝ }
+    ensures { λ q. ⌜ (q ≡ share k m (guardedSum d)) × (q ≤ mostShare) ⌝ }
 {
     share(k, m, guard(d.sum))
 }
 
 // A direction's five-sum by its share.
 fn shared(q: u64, d: Direction) -> i64
-    requires { ⌜ (q ≤ 134217728) × (natAbs (d .five) ≤ 2097152) ⌝ }
+    requires { ⌜ (q ≤ mostShare) × (natAbs (d .five) ≤ 2097152) ⌝ }
     ensures { λ r. ⌜ (r ≡ pos q *ℤ d .five) × (natAbs r ≤ 2097152 * q) ⌝ }
 {
     q as i64 * d.five
@@ -88,7 +88,7 @@ pub fn green(
     north: Direction,
     south: Direction,
 ) -> u16
-    requires { ⌜ (0 < k) × (k ≤ 134217728) × ((0 < total) × (total ≤ 128)) ⌝ }
+    requires { ⌜ (0 < k) × (k ≤ mostShare) × ((0 < total) × (total ≤ 128)) ⌝ }
     requires { ⌜ (Fitting k east) × (Fitting k west) × (Fitting k north) × (Fitting k south) ⌝ }
     ensures { λ g. ⌜ g ≡ green k total c east (west ∷ north ∷ south ∷ []) ⌝ }
 {

@@ -7,13 +7,12 @@ use native.Mathlib.Omega.{arith}
 use lib.Dec.{lit≤}
 use lib.IntN.{ℤ, pos, natAbs, subℕ}
 use lib.ListN.{length, getD, take, drop, length-append}
-use lib.Seq.{drop-at, take-all}
 use Rattle.lists.specs.Part.{rowOf, part}
 use Rattle.lists.specs.Table.{table, joined}
 use Rattle.lists.specs.Bound.{AllAtMost, AllWithin}
 use Rattle.lists.proofs.TableLaws.{length-table, table-same, table-part}
 use Rattle.lists.proofs.JoinedLaws.{joined-same, joined-rows, part-within}
-use Rattle.lists.proofs.PartLaws.{part-length, first-part, other-part, getD-part, part-part}
+use Rattle.lists.proofs.PartLaws.{part-length, first-part, rest-part, other-part, getD-part, part-part}
 use Rattle.lists.proofs.BoundLaws.{all-part, all-append}
 use Rattle.bayer.specs.declared.frame.Frame.{Frame}
 use Rattle.bayer.specs.Mirror.{mirror}
@@ -45,28 +44,28 @@ difference-same step o p x y k j green read = λ t. difference (green t) (read 2
     here : getD x k 0 ≡ getD y j 0
     here = simp (zero-mul, add-zero) at (read 0 (lit≤ tt))
 
--- the differences along the rows and along the columns, of readings x around a block whose rows have m places
-abbrev alongRows : (s m o : ℕ) (x : List ℕ) → List ℤ
-alongRows s m o x = table (differenceIn 1 o (part (5 * s - 2) (m + 2 * s + 4) x)) (m + 2 * s)
+-- the differences along the rows and along the columns, of readings x around a block whose rows have m places in all
+abbrev rowDifferences : (s m o : ℕ) (x : List ℕ) → List ℤ
+rowDifferences s m o x = table (differenceIn 1 o (part (5 * s - 2) (m + 2 * s + 4) x)) (m + 2 * s)
 
-abbrev alongColumns : (s m o : ℕ) (x : List ℕ) → List ℤ
-alongColumns s m o x = table (differenceIn s (1 - o) x) (m + 8 * s)
+abbrev columnDifferences : (s m o : ℕ) (x : List ℕ) → List ℤ
+columnDifferences s m o x = table (differenceIn s (1 - o) x) (m + 8 * s)
 
 part-small : (a k : ℕ) (l : List ℕ) → AllAtMost 4095 l → AllAtMost 4095 (part a k l)
 part-small a k l h = all-part (λ n. n ≤ 4095) 0 (omega arith) a k l h
 
-module _ (f : Frame) (first : ℕ) (rows : List ℕ) (v b s m o : ℕ) {x : List ℕ} (x-is : x ≡ joined (extendedRow f first rows v s) (b + 12)) (small : AllAtMost 4095 rows) where
+module _ (f : Frame) (first : ℕ) (rows : List ℕ) (v b s o : ℕ) {x : List ℕ} (x-is : x ≡ joined (extendedRow f first rows v s) (b + 12)) (small : AllAtMost 4095 rows) where
   x-small : AllAtMost 4095 x
   x-small = rw x-is (extended-at-most f first rows v s (b + 12) small)
 
-  rows-within : AllWithin mostDifference (alongRows s m o x)
-  rows-within = differences-within 1 o (part (5 * s - 2) (m + 2 * s + 4) x) (m + 2 * s) (part-small (5 * s - 2) (m + 2 * s + 4) x x-small)
+  rows-within : AllWithin mostDifference (rowDifferences s (b * s) o x)
+  rows-within = differences-within 1 o (part (5 * s - 2) (b * s + 2 * s + 4) x) (b * s + 2 * s) (part-small (5 * s - 2) (b * s + 2 * s + 4) x x-small)
 
-  columns-within : AllWithin mostDifference (alongColumns s m o x)
-  columns-within = differences-within s (1 - o) x (m + 8 * s) x-small
+  columns-within : AllWithin mostDifference (columnDifferences s (b * s) o x)
+  columns-within = differences-within s (1 - o) x (b * s + 8 * s) x-small
 
-  pub both-within : {d : List ℤ} → d ≡ alongRows s m o x ++ alongColumns s m o x → AllWithin mostDifference d
-  both-within e = rw e (all-append (λ a. natAbs a ≤ mostDifference) (pos 0) (omega arith) (alongRows s m o x) (alongColumns s m o x) rows-within columns-within)
+  pub both-within : {d : List ℤ} → d ≡ rowDifferences s (b * s) o x ++ columnDifferences s (b * s) o x → AllWithin mostDifference d
+  both-within e = rw e (all-append (λ a. natAbs a ≤ mostDifference) (pos 0) (omega arith) (rowDifferences s (b * s) o x) (columnDifferences s (b * s) o x) rows-within columns-within)
 
 -- ---- a block of b rows from row v on, of which column 0 is green or not by o: the readings x, the differences d and the gradients g
 pub record BlockBuffers (f : Frame) (first : ℕ) (rows : List ℕ) (v b s o : ℕ) (x : List ℕ) (d : List ℤ) (g : List ℕ) : Type 0 where
@@ -78,7 +77,7 @@ pub record BlockBuffers (f : Frame) (first : ℕ) (rows : List ℕ) (v b s o : �
   pub narrow : s ≤ f .width + 15
   pub starts : o ≡ startsGreen (f .layout) v
   pub x-is : x ≡ joined (extendedRow f first rows v s) (b + 12)
-  pub d-is : d ≡ alongRows s (b * s) o x ++ alongColumns s (b * s) o x
+  pub d-is : d ≡ rowDifferences s (b * s) o x ++ columnDifferences s (b * s) o x
   pub g-is : g ≡ table (gradientIn 1 (part 0 (b * s + 2 * s) d)) (b * s + 2 * s - 4) ++ table (gradientIn s (part (b * s + 2 * s) (b * s + 8 * s) d)) (b * s + 4 * s)
 
 module _ {f : Frame} {first : ℕ} {rows : List ℕ} {v b s o : ℕ} {x : List ℕ} {d : List ℤ} {g : List ℕ} (z : BlockBuffers f first rows v b s o x d g) where
@@ -89,10 +88,10 @@ module _ {f : Frame} {first : ℕ} {rows : List ℕ} {v b s o : ℕ} {x : List �
   hx = part (5 * s - 2) (m + 2 * s + 4) x
 
   abbrev dh : List ℤ
-  dh = alongRows s m o x
+  dh = rowDifferences s m o x
 
   abbrev dv : List ℤ
-  dv = alongColumns s m o x
+  dv = columnDifferences s m o x
 
   abbrev gh : List ℕ
   gh = table (gradientIn 1 dh) (m + 2 * s - 4)
@@ -108,7 +107,7 @@ module _ {f : Frame} {first : ℕ} {rows : List ℕ} {v b s o : ℕ} {x : List �
   dv-part = other-part (m + 2 * s) dh dv (z .d-is) (length-table _ _)
 
   dv-whole : part (m + 2 * s) (m + 8 * s) d ≡ dv
-  dv-whole = ap (part (m + 2 * s) (m + 8 * s)) (z .d-is) ∙ ap (take (m + 8 * s)) (drop-at dh dv (m + 2 * s) (length-table _ _)) ∙ take-all (m + 8 * s) dv (le-of-eq (length-table _ _))
+  dv-whole = rest-part (m + 2 * s) (m + 8 * s) dh dv (z .d-is) (length-table _ _) (le-of-eq (length-table _ _))
 
   two-gradients : g ≡ gh ++ gv
   two-gradients =
@@ -231,10 +230,10 @@ module _ {f : Frame} {first : ℕ} {rows : List ℕ} {v b s o : ℕ} {x : List �
   -- ---- what `fuse_rows` requires
   module _ (small : AllAtMost 4095 rows) where
     dh-within : AllWithin mostDifference dh
-    dh-within = rows-within f first rows v b s m o (z .x-is) small
+    dh-within = rows-within f first rows v b s o (z .x-is) small
 
     dv-within : AllWithin mostDifference dv
-    dv-within = columns-within f first rows v b s m o (z .x-is) small
+    dv-within = columns-within f first rows v b s o (z .x-is) small
 
     pub ready : (ws : List ℕ) → 0 < total ws → total ws ≤ 128 → (out sums : List ℕ) (fives : List ℤ) → length out ≡ b * f .width → length sums ≡ 4 * f .width → length fives ≡ 4 * f .width
         → ((o < 2) × (AllAtMost 4095 own) × (length own ≡ b * f .width) × (length out ≡ b * f .width) × (f .width + 14 ≤ s) × (s ≤ 4111) × (b ≤ 4) × (0 < total ws) × (total ws ≤ 128))

@@ -11,13 +11,18 @@ use lib.ListN.{length, take, drop, getD, length-append, drop-of-length-le, lengt
 use lib.Seq.{take-all, take-add, take-at, drop-at, drop-drop, getD-append-add}
 use Rattle.lists.specs.Table.{table, joined}
 use Rattle.lists.specs.Part.{part, rowOf}
-use Rattle.lists.proofs.PartLaws.{part-length, placed, row-length, row-entry}
+use Rattle.lists.proofs.PartLaws.{part-length, placed, placed-rest, row-length, row-entry}
 use Rattle.lists.proofs.TableLaws.{length-table, getD-table, table-same, table-getD}
 
 module _ {A : Type 0} where
   pub joined-one : (f : ℕ → List A) → joined f 1 ≡ f 0
   unfolding joined
   joined-one f = refl
+
+  -- two lists given by rules: the first n places were handed on and hold the one, the others are handed on and then hold the other
+  pub two-tables : (n m : ℕ) {f g p q : ℕ → A} (l : List A) {a e : List A} {i j : ℕ} → p ≡ f → q ≡ g → i ≡ n → j ≡ m → a ≡ table p i → e ≡ table q j
+      → placed n (length (a ++ l)) (a ++ l) e ≡ table f n ++ table g m
+  two-tables n m l {a} {e} u v i j s t = placed-rest n a l e (ap length s ∙ length-table _ _ ∙ i) ∙ rw (s, t, u, v, i, j)
 
   pub joined-same : (f g : ℕ → List A) (n : ℕ) → ((i : ℕ) → i < n → f i ≡ g i) → joined f n ≡ joined g n
   unfolding joined

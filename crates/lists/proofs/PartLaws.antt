@@ -31,8 +31,11 @@ module _ {A : Type 0} where
   pub first-part : (n k : ℕ) (p q : List A) {l : List A} → l ≡ p ++ q → length p ≡ n → k ≡ n → take k l ≡ p
   first-part n k p q e h i = rw (e, i) (take-at p q n h)
 
+  pub rest-part : (n k : ℕ) (p q : List A) {l : List A} → l ≡ p ++ q → length p ≡ n → length q ≤ k → take k (drop n l) ≡ q
+  rest-part n k p q e h i = rw (e, drop-at p q n h) (take-all k q i)
+
   pub other-part : (n : ℕ) (p q : List A) {l : List A} → l ≡ p ++ q → length p ≡ n → take (length l - n) (drop n l) ≡ q
-  other-part n p q e h = rw (e, drop-at p q n h) (take-all (length (p ++ q) - n) q (rw (length-append p q) (omega arith)))
+  other-part n p q {l} e h = rest-part n (length l - n) p q e h (rw (e, length-append p q) (omega arith))
 
   -- ys in the places a to b of xs, in the form in which a part that was lent comes back. (Where ys is as long as the part, this is `put a ys xs`.)
   abbrev pub placed : (a b : ℕ) (xs ys : List A) → List A

@@ -11,14 +11,14 @@ use Rattle.gbtf.proofs.difference.plain_gradient.Statement.{statement}
 use Rattle.gbtf.proofs.difference.plain_gradient.Tie as tie
 use borrow.Author.Needs.{needs}
 
-abbrev across : tie.Start → E w32
-across c = int (c .args .before) mostDifference (c .pre .0) ⊖ int (c .args .after) mostDifference (c .pre .1)
+abbrev change : tie.Start → E w32
+change c = int (c .args .before) mostDifference (c .pre .0) ⊖ int (c .args .after) mostDifference (c .pre .1)
 
 is : (c : tie.After-magnitude) → c .magnitude .result ≡ plainGradient (c .before .args .before) (c .before .args .after)
-is c = c .magnitude .ensures ∙ ap natAbs (value (across (c .before)) tt)
+is c = c .magnitude .ensures ∙ ap natAbs (value (change (c .before)) tt)
 
 sub-magnitude : tie.Need-sub-magnitude
-sub-magnitude c = asked (across c) tt
+sub-magnitude c = asked (change c) tt
 
 magnitude-requires : tie.Need-magnitude-requires
 magnitude-requires c κs = search needs

@@ -6,12 +6,13 @@ use lib.IntN.{pos, natAbs}
 use mir.Syntax.{w64}
 use Rattle.whole.proofs.Signed.{E, nat, int, _⊗_, asked, value}
 use Rattle.whole.proofs.Magnitudes.{mul-within}
+use Rattle.gbtf.specs.Machine.{mostShare}
 use Rattle.gbtf.proofs.fusion.shared.Statement.{statement}
 use Rattle.gbtf.proofs.fusion.shared.Tie as tie
 use borrow.Author.Needs.{needs}
 
 abbrev product : tie.Start → E w64
-product c = nat (c .args .q) 134217728 (c .pre .0) ⊗ int (c .args .d .five) 2097152 (c .pre .1)
+product c = nat (c .args .q) mostShare (c .pre .0) ⊗ int (c .args .d .five) 2097152 (c .pre .1)
 
 cast-result : tie.Need-cast-result
 cast-result c = search needs

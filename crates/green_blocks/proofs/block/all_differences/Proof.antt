@@ -1,14 +1,9 @@
 -- `green_blocks::block::all_differences` meets its contract: one part is the differences along the rows, the other those along the columns. Assumes nothing.
-use Prim.Native.Nat.{ℕ, _+_, _-_, _*_}
+use Prim.Native.Nat.{_+_, _-_, _*_}
 use native.Mathlib.Omega.{arith}
-use mathlib.Core.List.{List, _++_}
-use mathlib.Core.Path.{_≡_, ap, _∙_}
-use lib.IntN.{ℤ}
-use lib.ListN.{length, take, drop}
-use Rattle.lists.specs.Table.{table}
+use mathlib.Core.Path.{_≡_, refl, ap}
 use Rattle.lists.specs.Part.{part}
-use Rattle.lists.proofs.TableLaws.{length-table}
-use Rattle.lists.proofs.PartLaws.{placed-rest}
+use Rattle.lists.proofs.JoinedLaws.{two-tables}
 use Rattle.green_row.specs.AlongAxis.{differenceIn}
 use Rattle.green_blocks.proofs.block.all_differences.Statement.{statement}
 use Rattle.green_blocks.proofs.block.all_differences.Tie as tie
@@ -79,18 +74,13 @@ differences-requires-2 c κs = omega arith
 same-length : tie.Need-same-length
 same-length c = omega arith
 
--- what the two calls leave: a of the first n places, e of the others
-whole : (s m n odd k l : ℕ) (x : List ℕ) (q : List ℤ) {a e : List ℤ} {i j : ℕ} → k ≡ l → i ≡ n → j ≡ m
-    → a ≡ table (differenceIn 1 odd (part (5 * s - 2) k x)) i → e ≡ table (differenceIn s (1 - odd) x) j
-    → take n (a ++ q) ++ (e ++ drop (length (a ++ q) - n) (drop n (a ++ q))) ≡ table (differenceIn 1 odd (part (5 * s - 2) l x)) n ++ table (differenceIn s (1 - odd) x) m
-whole s m n odd k l x q {a} {e} h i j p r = placed-rest n a q e (ap length p ∙ length-table _ _ ∙ i) ∙ rw (p, r, h, i, j)
-
 returns : tie.Need-returns
 returns c =
     let e₂ = c .before in
     let e₁ = e₂ .before .before .before in
     let a = e₁ .before .before .before .before .args in
-    whole (a .s) (a .m + 8 * a .s) (a .m + 2 * a .s) (a .odd) (a .m + 7 * a .s + 2 - (5 * a .s - 2)) (a .m + 2 * a .s + 4) (a .x .now) _ (omega arith) (omega arith) (omega arith) (e₁ .differences .ensures) (e₂ .differences2 .ensures)
+    let k : a .m + 7 * a .s + 2 - (5 * a .s - 2) ≡ a .m + 2 * a .s + 4 = omega arith in
+    two-tables (a .m + 2 * a .s) (a .m + 8 * a .s) _ (ap (λ n. differenceIn 1 (a .odd) (part (5 * a .s - 2) n (a .x .now))) k) refl (omega arith) (omega arith) (e₁ .differences .ensures) (e₂ .differences2 .ensures)
 
 pub all-differences-spec : {M : Type 1} → statement M
 all-differences-spec =

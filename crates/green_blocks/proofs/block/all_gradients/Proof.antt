@@ -1,15 +1,12 @@
 -- `green_blocks::block::all_gradients` meets its contract: one part is the gradients along the rows, the other those along the columns. Assumes nothing.
 use Prim.Native.Nat.{ℕ, _+_, _-_, _*_, _≤_}
 use native.Mathlib.Omega.{arith}
-use mathlib.Core.List.{List, _++_}
-use mathlib.Core.Path.{_≡_, ap, _∙_}
-use lib.IntN.{ℤ, pos, natAbs}
-use lib.ListN.{length, take, drop}
-use Rattle.lists.specs.Table.{table}
+use mathlib.Core.Path.{_≡_, ap}
+use lib.IntN.{pos, natAbs}
+use lib.ListN.{length}
 use Rattle.lists.specs.Part.{part}
 use Rattle.lists.specs.Bound.{AllWithin}
-use Rattle.lists.proofs.TableLaws.{length-table}
-use Rattle.lists.proofs.PartLaws.{placed-rest}
+use Rattle.lists.proofs.JoinedLaws.{two-tables}
 use Rattle.lists.proofs.BoundLaws.{all-part}
 use Rattle.gbtf.specs.Bounds.{mostDifference}
 use Rattle.green_row.specs.AlongAxis.{gradientIn}
@@ -82,20 +79,15 @@ gradients-requires-2 c κs =
 same-length : tie.Need-same-length
 same-length c = omega arith
 
--- what the two calls leave: a of the first n places, e of the others
-whole : (s m n k l k′ l′ at : ℕ) (d : List ℤ) (q : List ℕ) {a e : List ℕ} {i j : ℕ} → k ≡ l → k′ ≡ l′ → i ≡ n → j ≡ m
-    → a ≡ table (gradientIn 1 (part 0 k d)) i → e ≡ table (gradientIn s (part at k′ d)) j
-    → take n (a ++ q) ++ (e ++ drop (length (a ++ q) - n) (drop n (a ++ q))) ≡ table (gradientIn 1 (part 0 l d)) n ++ table (gradientIn s (part at l′ d)) m
-whole s m n k l k′ l′ at d q {a} {e} h h′ i j p r = placed-rest n a q e (ap length p ∙ length-table _ _ ∙ i) ∙ rw (p, r, h, h′, i, j)
-
 returns : tie.Need-returns
 returns c =
     let e₂ = c .before .before in
     let e₁ = e₂ .before .before .before .before .before in
     let a = e₁ .before .before .before .before .args in
-    whole (a .s) (a .m + 4 * a .s) (a .m + 2 * a .s - 4) (a .m + 2 * a .s - 0) (a .m + 2 * a .s)
-    (length (a .d .now) - (a .m + 2 * a .s)) (a .m + 8 * a .s) (a .m + 2 * a .s) (a .d .now) _
-    (omega arith) (omega arith) (omega arith) (omega arith) (e₁ .gradients .ensures) (e₂ .gradients2 .ensures)
+    let n = a .m + 2 * a .s in
+    let h : n - 0 ≡ n = omega arith in
+    let k : length (a .d .now) - n ≡ a .m + 8 * a .s = omega arith in
+    two-tables (n - 4) (a .m + 4 * a .s) _ (ap (λ i. gradientIn 1 (part 0 i (a .d .now))) h) (ap (λ i. gradientIn (a .s) (part n i (a .d .now))) k) (omega arith) (omega arith) (e₁ .gradients .ensures) (e₂ .gradients2 .ensures)
 
 pub all-gradients-spec : {M : Type 1} → statement M
 all-gradients-spec =

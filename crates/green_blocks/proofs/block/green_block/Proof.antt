@@ -51,7 +51,7 @@ all-gradients-requires c κs =
     let r = fetched e in
     let q = entry (started r) in
     let a = q .args in
-    (omega (arith, narrow q, size q), both-within (a .frame) (a .start) (a .piece .now) (a .v) (a .b) (a .s) (a .b * a .s) (started r .starts-green .result) (r .fetch .ensures) (q .pre .0 .3) (e .all-differences .ensures))
+    (omega (arith, narrow q, size q), both-within (a .frame) (a .start) (a .piece .now) (a .v) (a .b) (a .s) (started r .starts-green .result) (r .fetch .ensures) (q .pre .0 .3) (e .all-differences .ensures))
 
 -- what is known when the gradients are there
 module _ (c : tie.After-slice-known6) where
