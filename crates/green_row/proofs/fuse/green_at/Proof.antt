@@ -34,8 +34,15 @@ green-requires c κs =
     let c₃ = c .before in
     let c₂ = c₃ .before in
     let c₁ = c₂ .before in
-    let s = c₁ .before .before in
-    ((omega arith, omega arith, omega arith), (fits s 0 (lit< tt) (c₁ .direction-at .ensures), fits s 1 (lit< tt) (c₂ .direction-at2 .ensures), fits s 2 (lit< tt) (c₃ .direction-at3 .ensures), fits s 3 (lit< tt) (c .direction-at4 .ensures)))
+    let s = c₁ .before .before in (
+      (omega arith, omega arith, omega arith),
+      (
+        fits s 0 (lit< tt) (c₁ .direction-at .ensures),
+        fits s 1 (lit< tt) (c₂ .direction-at2 .ensures),
+        fits s 2 (lit< tt) (c₃ .direction-at3 .ensures),
+        fits s 3 (lit< tt) (c .direction-at4 .ensures),
+      ),
+    )
 
 returns : tie.Need-returns
 unfolding fusedBy
