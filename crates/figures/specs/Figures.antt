@@ -1,4 +1,4 @@
--- Document 01's bench figures marked M, in its order, the printed hundredths, the figures that the requests print, and readings of test frames that the other
+-- Document 01's bench figures marked M, in its order (the shares are document 02's, A.4), the printed hundredths, the figures that the requests print, and readings of test frames that the other
 -- implementation worked out, as a table of claims about the written rules. proofs/FigureTable.antt has the theorem. Assumes nothing.
 use Prim.Native.Nat.{ℕ, zero, suc, _*_}
 use mathlib.Core.Path.{_≡_}

@@ -12,7 +12,7 @@ use Rattle.gbtf.specs.Direction.{guardedSum}
 use Rattle.gbtf.specs.Fusion.{fusion}
 use Rattle.gbtf.specs.Machine.{Fitting}
 
--- at a share scale K, if K times the square of the largest direction sum is
+-- at a share scale K for which K times the square of the largest direction sum is inside 64 bits
 pub fitting : {K : ℕ} → K * (mostSum * mostSum) < 18446744073709551616 → (d : Direction) → natAbs (d .five) ≤ 2097152 → d .sum ≤ mostSum → Fitting K d
 fitting {K} l d h g = let m : guardedSum d ≤ mostSum = omega arith in record { five = h; square = lt-of-le-of-lt (mul-le-mul-left K (mul-le-mul m m)) l }
 

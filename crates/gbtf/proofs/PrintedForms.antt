@@ -1,4 +1,4 @@
--- The papers' own forms: of the gradient, source 000's; of the five-sum, of fusion and of green, document 01's, with the share scale of document 02. Assumes nothing.
+-- Printed forms: of the gradient, source 000's; of the five-sum, of fusion and of green, document 01's, with the share scale of document 02. Assumes nothing.
 use mathlib.Core.Path.{_≡_, _∙_, ap, ap₂}
 use mathlib.Core.Bool.{false}
 use mathlib.Core.List.{[], _∷_}
@@ -68,7 +68,7 @@ four-directions K c e w n s = ap (λ z. clamp (pos (16 * c) +ℤ z)) (ap₂ (λ 
     sums : (a b c d : ℕ) → a + (b + (c + (d + 0))) ≡ a + b + c + d
     sums a b c d = omega arith
 
--- document 01's rule at a red or blue pixel, as printed: five-sums A and guarded sums t of the four directions, the smallest m, shares q, their sums N and S
+-- document 01's rule at a red or blue pixel, as printed, with document 02's share scale: five-sums A and guarded sums t of the four directions, the smallest m, shares q, their sums N and S
 pub green-printed : (x : Mosaic) (i j : ℤ) → isGreen x i j ≡ false →
     let five : (ℕ → ℤ) → ℤ = λ D. D 0 +ℤ D 1 +ℤ D 2 +ℤ D 3 +ℤ D 4 in
     let Ae = five (λ k. DH x i (j +ℤ pos k)) in

@@ -12,11 +12,11 @@ pub record Readings (c l r p q : ℕ) : Type 0 where
   pub second : p ≤ 4095
   pub other : q ≤ 4095
 
--- the largest share for which the code's sums are shown to be: 2^27, more than any rule takes
+-- the largest share for which the code's sums are shown to be inside 64 bits: 2^27, more than any rule takes
 abbrev pub mostShare : ℕ
 mostShare = 134217728
 
--- green's numbers are inside 64 bits, for shares up to that
+-- green's numbers are inside 64 bits, for such shares
 pub record Fitting (K : ℕ) (d : Direction) : Type 0 where
   pub five : natAbs (d .five) ≤ 2097152
   pub square : K * (guardedSum d * guardedSum d) < 18446744073709551616

@@ -29,7 +29,7 @@ use Rattle.green_row.specs.GreenIn.{greenIn}
 -- x: readings. dh, dv: differences along rows and columns; d holds first dh, then dv. gh, gv: their gradients; g holds first gh, then gv.
 -- dh is worked out from x's place 5 s − 2 on, two places before row v − 1, so that its places stand under x's; gh from dh's own start, so that it starts later, and is four places short.
 -- The first two and last two places of a row of dh, and the first two and last six of gh, reach into the row beside; none of these is read.
--- Row i of the block is handed what lies from place i s on: 3 rows of dh, as many less four places of gh, 9 of dv, 5 of gv. In these the row itself is row 1, 4 and 2, as in green_row/specs/Directions.
+-- Row i of the block is handed what lies from place i s on: 3 rows of dh; 3 rows less four places of gh; 9 rows of dv, 5 of gv. In these the row itself is row 1, 4 and 2, as in green_row/specs/Directions.
 
 -- green of row i of a block, whose own readings are rows of w
 abbrev pub greenRowIn : (K : ℕ) (ws : List ℕ) (w s odd : ℕ) (own : List ℕ) (dh dv : List ℤ) (gh gv : List ℕ) (i : ℕ) → List ℕ
