@@ -57,9 +57,9 @@ size_t rokzimp_piece_rows(size_t height, size_t first_row, size_t rows);
 
 /* A strip: fills rows first_row to first_row + rows - 1 of the three planes. `piece` is the rows of the mosaic named above, all
  * columns; its count and those of the planes are of samples. Tests 1 to 6, in that order. Returns 0 and every sample of the
- * three planes is written; or the refusal, and none is. The piece is only read. What is written lies within 0.53 of a unit (a
- * sixteenth of a reading) of the exact reconstruction of these rows of the whole frame in green and within 1.55 in red and blue,
- * and the observed sample is 16 times the reading. */
+ * three planes is written; or the refusal, and none is. The piece is only read. Every sample of green then lies within 0.53
+ * units, and every one of red and blue within 1.55, of the exact reconstruction of the whole frame, which is the same rules with
+ * nothing rounded (docs/PROVED.md, demand 3); a unit is a sixteenth of a reading. The observed sample is 16 times the reading. */
 uint32_t rokzimp_strip(size_t width, size_t height, uint8_t layout, size_t first_row, size_t rows,
                        const uint16_t *piece, size_t piece_count,
                        uint16_t *red, size_t red_count,

@@ -633,7 +633,7 @@ class Test(unittest.TestCase):
             self.assertEqual(self.run_seed(*words), (2, b"", None))
 
     def example(self):
-        """What the README's C example prints, by reference.py: a test frame, one strip of it and the strip's mosaic back."""
+        """What the README's C example prints, by reference.py: a test frame, one strip of it, and the strip's first reading, which comes back."""
         mosaic, planes = [0] * 320, [[0] * 32 for _ in range(3)]
         first, last = reference.strip_rows(20, 9, 2)
         numbers = reference.walk(RULES, 0, 16, 20, mosaic), reference.strip_call(RULES, reference.Frame(16, 20, 0), 9, 2, mosaic[16 * first:16 * last], planes)
