@@ -1,5 +1,5 @@
 #!/usr/bin/env python3
-"""Writes crates/figures/specs/WorkedPlanes.antt and WorkedExact.antt: tables of what the written rules must give.
+"""Writes crates/worked_planes/specs/WorkedPlanes.antt and crates/worked_exact/specs/WorkedExact.antt: tables of what the written rules must give.
 
     python3 tools/make_figures.py SEED [DIRECTORY]     the committed files: SEED 38
 
@@ -123,13 +123,13 @@ def make(seed, directory):
         'use mathlib.Core.List.{List, [], _∷_}',
         'use Rattle.bayer.specs.declared.frame.Frame.{Frame}',
         'use Rattle.bayer.specs.Frame.{frame}',
-        'use Rattle.figures.specs.Worked.{PlanesClaim, givesPlanes}',
+        'use Rattle.worked_planes.specs.PlanesClaim.{PlanesClaim, givesPlanes}',
     ]
-    exact = head('Values of the exact reconstruction of the frames of WorkedPlanes.antt. proofs/ExactTable.antt has the theorem.', seed) + [
+    exact = head('Values of the exact reconstruction of the frames of worked_planes/specs/WorkedPlanes. proofs/ExactTable.antt has the theorem.', seed) + [
         'use mathlib.Core.List.{List, [], _∷_}',
         'use Rattle.bayer.specs.declared.colour.Colour.the-variants.{Red, Green, Blue}',
-        'use Rattle.figures.specs.Worked.{Value, exactly, ExactClaim, givesExact}',
-        'use Rattle.figures.specs.WorkedPlanes.{%s}' % ', '.join('frame%s, readings%s' % (n, n) for n in LAST),
+        'use Rattle.worked_exact.specs.ExactClaim.{Value, exactly, ExactClaim, givesExact}',
+        'use Rattle.worked_planes.specs.WorkedPlanes.{%s}' % ', '.join('frame%s, readings%s' % (n, n) for n in LAST),
     ]
     kinds = set()
     for layout, n in enumerate(LAST):
@@ -149,10 +149,10 @@ def make(seed, directory):
     assert kinds == KINDS, 'the frames of this seed lack %s' % (KINDS - kinds)
     planes += claim('workedPlanes', 'List PlanesClaim', ' ∷ '.join('planes' + n for n in LAST) + ' ∷ []')
     exact += claim('workedExact', 'List ExactClaim', ' ∷ '.join('exact' + n for n in LAST) + ' ∷ []')
-    for name, text in (('WorkedPlanes', planes), ('WorkedExact', exact)):
-        with open(os.path.join(directory, name + '.antt'), 'w', encoding='utf-8') as out:
+    for crate, name, text in (('worked_planes', 'WorkedPlanes', planes), ('worked_exact', 'WorkedExact', exact)):
+        with open(os.path.join(directory or os.path.join(ROOT, 'crates', crate, 'specs'), name + '.antt'), 'w', encoding='utf-8') as out:
             out.write('\n'.join(text) + '\n')
 
 
 if __name__ == '__main__':
-    make(int(sys.argv[1]), sys.argv[2] if len(sys.argv) > 2 else os.path.join(ROOT, 'crates', 'figures', 'specs'))
+    make(int(sys.argv[1]), sys.argv[2] if len(sys.argv) > 2 else None)

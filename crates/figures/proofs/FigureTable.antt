@@ -23,10 +23,10 @@ use Rattle.green_rule.specs.Greens.{greens}
 use Rattle.demosaic.specs.Fill.{fill}
 use Rattle.demosaic.specs.Sample.{neighbours, otherFrom, sample}
 use Rattle.test_frames.specs.Generator.{affine, iterate, readingsAfter}
-use Rattle.figures.specs.Rule.{planeIs}
+use Rattle.worked_planes.specs.Rule.{planeIs}
 use Rattle.figures.specs.Figures.{adds, frame8, readings8, holds, figures}
-use Rattle.figures.proofs.Tables.{_and_}
-use Rattle.figures.proofs.PlaneTests.{planes-are}
+use Rattle.worked_planes.proofs.Tables.{_and_}
+use Rattle.worked_planes.proofs.PlaneTests.{planes-are}
 
 -- ---- directions of equal t have equal shares, so that fusion takes the mean of their five-sums
 

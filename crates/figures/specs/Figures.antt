@@ -24,7 +24,7 @@ use Rattle.demosaic.specs.Fill.{fill}
 use Rattle.demosaic.specs.Exact.{printedError}
 use Rattle.remosaic.specs.MosaicBack.{notOfCamera, mosaicRows}
 use Rattle.test_frames.specs.Generator.{readingsAfter}
-use Rattle.figures.specs.Rule.{PlanesAre}
+use Rattle.worked_planes.specs.Rule.{PlanesAre}
 
 pub data Claim : Type 0 where
   -- the difference, for a centre that is green or not

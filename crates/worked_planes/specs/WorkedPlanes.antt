@@ -3,7 +3,7 @@ use Prim.Native.Nat.{ℕ}
 use mathlib.Core.List.{List, [], _∷_}
 use Rattle.bayer.specs.declared.frame.Frame.{Frame}
 use Rattle.bayer.specs.Frame.{frame}
-use Rattle.figures.specs.Worked.{PlanesClaim, givesPlanes}
+use Rattle.worked_planes.specs.PlanesClaim.{PlanesClaim, givesPlanes}
 
 abbrev pub frame₀ : Frame
 frame₀ = frame 9 8 0

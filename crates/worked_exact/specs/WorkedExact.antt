@@ -1,8 +1,8 @@
--- Values of the exact reconstruction of the frames of WorkedPlanes.antt. proofs/ExactTable.antt has the theorem. Made by tools/make_figures.py 38 from reference/, stage A.4, and from nothing else. Assumes nothing.
+-- Values of the exact reconstruction of the frames of worked_planes/specs/WorkedPlanes. proofs/ExactTable.antt has the theorem. Made by tools/make_figures.py 38 from reference/, stage A.4, and from nothing else. Assumes nothing.
 use mathlib.Core.List.{List, [], _∷_}
 use Rattle.bayer.specs.declared.colour.Colour.the-variants.{Red, Green, Blue}
-use Rattle.figures.specs.Worked.{Value, exactly, ExactClaim, givesExact}
-use Rattle.figures.specs.WorkedPlanes.{frame₀, readings₀, frame₁, readings₁, frame₂, readings₂, frame₃, readings₃}
+use Rattle.worked_exact.specs.ExactClaim.{Value, exactly, ExactClaim, givesExact}
+use Rattle.worked_planes.specs.WorkedPlanes.{frame₀, readings₀, frame₁, readings₁, frame₂, readings₂, frame₃, readings₃}
 
 abbrev pub values₀ : List Value
 values₀ =

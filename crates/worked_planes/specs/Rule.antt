@@ -1,21 +1,16 @@
--- What the tables of this crate share: the written rules under one name each, and the test of a frame's planes. Assumes nothing.
+-- The whole-number rules under one name, and the test of a frame's planes. Assumes nothing.
 use Prim.Native.Nat.{ℕ, zero, suc}
 use mathlib.Core.Bool.{Bool, true, _&&_}
 use mathlib.Core.List.{List}
 use lib.Dec.{T, eqb}
-use Rattle.whole.specs.Fraction.{Fraction}
 use Rattle.bayer.specs.declared.colour.Colour.{Colour}
 use Rattle.bayer.specs.declared.colour.Colour.the-variants.{Red, Green, Blue}
 use Rattle.bayer.specs.declared.frame.Frame.{Frame}
 use Rattle.demosaic.specs.Sample.{sample}
-use Rattle.demosaic.specs.Exact.{exactSample}
 
--- plane k of a frame at row i and column j, by the whole-number rules and in the exact reconstruction
+-- plane k of a frame at row i and column j
 abbrev pub ruleSample : Frame → (readings : List ℕ) (k : Colour) (i j : ℕ) → ℕ
 ruleSample f readings k i j = sample f 0 readings k i j
-
-abbrev pub ruleExact : Frame → (readings : List ℕ) (k : Colour) (i j : ℕ) → Fraction
-ruleExact f readings k i j = exactSample f 0 readings k i j
 
 -- for each number below n
 abbrev pub all : ℕ → (ℕ → Bool) → Bool

@@ -10,9 +10,9 @@ use Rattle.gbtf.specs.GreenAt.{DH, DV, GH, GV, greenAt, exactGreenAt}
 use Rattle.green_rule.specs.Greens.{greens, exactGreens}
 use Rattle.demosaic.specs.Sample.{neighbours}
 use Rattle.demosaic.specs.Exact.{mean, exactFill, exactOtherFrom, exactSample}
-use Rattle.figures.specs.Worked.{exactHolds}
-use Rattle.figures.specs.WorkedExact.{exact₀, exact₁, exact₂, exact₃, workedExact}
-use Rattle.figures.proofs.Tables.{_and_}
+use Rattle.worked_exact.specs.ExactClaim.{exactHolds}
+use Rattle.worked_exact.specs.WorkedExact.{exact₀, exact₁, exact₂, exact₃, workedExact}
+use Rattle.worked_planes.proofs.Tables.{_and_}
 
 exact₀-holds : exactHolds exact₀
 unfolding colours colourAt mirror rowOf difference fusion green DH DV GH GV greenAt greens sumOver/t² exactGreen exactGreenAt exactGreens neighbours mean exactFill exactOtherFrom exactSample

@@ -16,7 +16,7 @@ use Rattle.bayer.specs.Mosaic.{Mosaic, continued}
 use Rattle.green_rule.specs.Greens.{greens}
 use Rattle.demosaic.specs.Sample.{sampleFrom, sample}
 use Rattle.demosaic.proofs.SampleInside.{sampleFrom-inside}
-use Rattle.figures.specs.Rule.{ruleSample, all, planeIs, PlanesAre}
+use Rattle.worked_planes.specs.Rule.{ruleSample, all, planeIs, PlanesAre}
 
 at : (n : ℕ) (f : ℕ → Bool) → T (all n f) → (i : ℕ) → i < n → T (f i)
 at zero f t i h = absurd (let z : ⊥ = omega arith in z)

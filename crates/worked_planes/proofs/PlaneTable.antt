@@ -13,11 +13,11 @@ use Rattle.gbtf.specs.GreenAt.{DH, DV, GH, GV, greenAt}
 use Rattle.green_rule.specs.Greens.{greens}
 use Rattle.demosaic.specs.Fill.{fill}
 use Rattle.demosaic.specs.Sample.{neighbours, otherFrom, sample}
-use Rattle.figures.specs.Rule.{planeIs}
-use Rattle.figures.specs.Worked.{PlanesClaim, givesPlanes, listed, planesHold}
-use Rattle.figures.specs.WorkedPlanes.{planes₀, planes₁, planes₂, planes₃, workedPlanes}
-use Rattle.figures.proofs.Tables.{_and_}
-use Rattle.figures.proofs.PlaneTests.{fromGreens, planes-are}
+use Rattle.worked_planes.specs.Rule.{planeIs}
+use Rattle.worked_planes.specs.PlanesClaim.{PlanesClaim, givesPlanes, listed, planesHold}
+use Rattle.worked_planes.specs.WorkedPlanes.{planes₀, planes₁, planes₂, planes₃, workedPlanes}
+use Rattle.worked_planes.proofs.Tables.{_and_}
+use Rattle.worked_planes.proofs.PlaneTests.{fromGreens, planes-are}
 
 abbrev greensHold : PlanesClaim → Bool
 greensHold (givesPlanes f readings red green blue) = planeIs f readings Green (listed f green)
