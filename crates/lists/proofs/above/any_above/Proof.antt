@@ -1,8 +1,9 @@
 -- `lists::above::any_above` meets its contract: `found` says it of the entries before place i. Assumes nothing.
-use Prim.Native.Nat.{_≤_, _-_}
-use mathlib.Core.Path.{_≡_, refl, sym, _∙_}
+use Prim.Native.Nat.{_+_, _-_, _≤_}
+use mathlib.Core.Path.{_≡_, refl, sym, ap, _∙_}
 use mathlib.Core.Bool.{_||_}
 use native.Mathlib.Omega.{arith}
+use borrow.Author.Needs.{needs}
 use lib.ListN.{length, drop}
 use Rattle.lists.specs.Bound.{anyAbove}
 use Rattle.lists.proofs.AnyLaws.{any-next, any-end}
@@ -18,11 +19,14 @@ abbrev μ-loop : tie.MeasureT-loop
 loop-holds : tie.Need-loop-holds Inv-loop μ-loop
 loop-holds c = (omega arith, refl)
 
-mul-found : tie.Need-mul-found Inv-loop μ-loop
-mul-found c = omega arith
+mul-is-above : tie.Need-mul-is-above Inv-loop μ-loop
+mul-is-above c = omega arith
 
-shared-slice-read-found : tie.Need-shared-slice-read-found Inv-loop μ-loop
-shared-slice-read-found c = omega arith
+shared-slice-read-is-above : tie.Need-shared-slice-read-is-above Inv-loop μ-loop
+shared-slice-read-is-above c = omega arith
+
+is-above-requires : tie.Need-is-above-requires Inv-loop μ-loop
+is-above-requires c κs = search needs
 
 add-i : tie.Need-add-i Inv-loop μ-loop
 add-i c = omega arith
@@ -31,7 +35,11 @@ loop-less : tie.Need-loop-less Inv-loop μ-loop
 loop-less c = omega arith
 
 loop-again : tie.Need-loop-again Inv-loop μ-loop
-loop-again c = let l = c .before .before .loop in (omega arith, l .inv .1 ∙ any-next _ _ (l .i) (l .found) 0 (omega arith))
+loop-again c =
+    let k = c .before .before .before in
+    let l = k .loop in
+    let a = k .before .before .args in
+    (omega arith, l .inv .1 ∙ any-next _ _ (l .i) (l .found) 0 (omega arith) ∙ ap (λ b. (l .found || b) || anyAbove (a .limit) (drop (l .i + 1) (a .s .now))) (sym (c .is-above .ensures)))
 
 returns : tie.Need-returns Inv-loop μ-loop
 returns c = let l = c .before .loop in sym (l .inv .1 ∙ any-end _ _ (l .i) (l .found) (omega arith))
@@ -43,8 +51,9 @@ any-above-spec =
     Inv-loop
     μ-loop
     loop-holds
-    mul-found
-    shared-slice-read-found
+    mul-is-above
+    shared-slice-read-is-above
+    is-above-requires
     add-i
     loop-less
     loop-again
