@@ -12,13 +12,14 @@
  *   - No other thread writes a run of the call while it runs, nor reads one that it writes.
  *
  * The library keeps no memory between calls, takes no lock and no heap, and prints nothing. Calls in several threads are
- * independent; strips of one frame may run at the same time, each into its own rows. A call of rokzimp_strip takes about
+ * independent; strips of one frame may run at the same time, each into its own rows. A strip call takes about
  * 810 KB of stack, whatever the size of the frame: a thread that calls it needs a stack of 1 MB at the least. The others take
  * next to none.
  *
  * A frame has `width` columns and `height` rows, each 8 to 4096. Rows and columns count from 0. Readings are 0 to 4095. The
  * layout gives the colours of an even and of an odd row: 0 = RG GB, 1 = GR BG, 2 = GB RG, 3 = BG GR. It is a byte here: C
- * cuts a wider number to its low byte without a word, so test a wider one before the call.
+ * cuts a wider number to its low byte without a word, so test a wider one before the call. So is the smoothing, which says how
+ * a strip weights the five differences of a direction, from the pixel outward: 0 = evenly, 1 = 26, 24, 21, 17 and 12 hundredths.
  * Samples are in sixteenths of a reading, 0 to 65520. The observed sample of a pixel is the one in the plane of its filter's
  * colour. Mosaics and planes are stored row by row, without gaps.
  *
@@ -46,7 +47,8 @@ enum {
     ROKZIMP_OVER_RANGE = 6,     /* "over range": some reading of the piece is above 4095 */
     ROKZIMP_NO_SUCH_ROW = 7,    /* "no such row": a plane is shorter than (row + 1) * width, not wrapped; partner view: or row >= height */
     /* 8 is for what the two programs read, which no function here does */
-    ROKZIMP_NOT_CAMERA_PLANES = 9 /* "not camera planes": an observed sample is not a multiple of 16, or is above 65520 */
+    ROKZIMP_NOT_CAMERA_PLANES = 9, /* "not camera planes": an observed sample is not a multiple of 16, or is above 65520 */
+    ROKZIMP_UNKNOWN_SMOOTHING = 10 /* "unknown smoothing": smoothing above 1 */
 };
 
 /* The rows of the mosaic that a strip of `rows` rows from `first_row` on is lent: rokzimp_piece_rows rows from row
@@ -56,10 +58,24 @@ size_t rokzimp_piece_start(size_t first_row);
 size_t rokzimp_piece_rows(size_t height, size_t first_row, size_t rows);
 
 /* A strip: fills rows first_row to first_row + rows - 1 of the three planes. `piece` is the rows of the mosaic named above, all
- * columns; its count and those of the planes are of samples. Tests 1 to 6, in that order. Returns 0 and every sample of the
- * three planes is written; or the refusal, and none is. The piece is only read. Every sample of green then lies within 0.53
- * units, and every one of red and blue within 1.55, of the exact reconstruction of the whole frame, which is the same rules with
- * nothing rounded (docs/PROVED.md, demand 3); a unit is a sixteenth of a reading. The observed sample is 16 times the reading. */
+ * columns; its count and those of the planes are of samples. Tests 1, 2, 10, 3, 4, 5 and 6, in that order. Returns 0 and every
+ * sample of the three planes is written; or the refusal, and none is. The piece is only read. Every sample of green then lies
+ * within 0.53 units, and every one of red and blue within 1.55, of the exact reconstruction of the whole frame, which is the same
+ * rules with the same smoothing and nothing rounded (docs/PROVED.md, demand 3); a unit is a sixteenth of a reading. So it is of a
+ * plane whose strips all named one smoothing. The observed sample is 16 times the reading. */
+uint32_t rokzimp_strip_smoothed(size_t width, size_t height, uint8_t layout, uint8_t smoothing, size_t first_row, size_t rows,
+                                const uint16_t *piece, size_t piece_count,
+                                uint16_t *red, size_t red_count,
+                                uint16_t *green, size_t green_count,
+                                uint16_t *blue, size_t blue_count);
+
+/* The number that rokzimp_strip_smoothed returns for such a call, and nothing else done. */
+uint32_t rokzimp_strip_smoothed_check(size_t width, size_t height, uint8_t layout, uint8_t smoothing, size_t first_row, size_t rows,
+                                      const uint16_t *piece, size_t piece_count,
+                                      size_t red_count, size_t green_count, size_t blue_count);
+
+/* The same with no smoothing named, which is 1; so these never return 10. CHANGED: before smoothing could be named they weighted
+ * evenly. A caller who wants the samples of then calls rokzimp_strip_smoothed with 0. */
 uint32_t rokzimp_strip(size_t width, size_t height, uint8_t layout, size_t first_row, size_t rows,
                        const uint16_t *piece, size_t piece_count,
                        uint16_t *red, size_t red_count,

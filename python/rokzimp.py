@@ -30,6 +30,7 @@ WORDS = {
     7: ("no such row", "a plane lacks the row, or the row is past the frame"),
     8: ("torn file", "the file is not what its first ten bytes say"),
     9: ("not camera planes", "an observed sample is not a multiple of 16, or is above 65520"),
+    10: ("unknown smoothing", "smoothing above 1"),
 }
 
 
@@ -59,6 +60,8 @@ def _load():
         ("piece_rows", size, [size] * 3),
         ("strip", word, frame + [size, size] + samples * 4),
         ("strip_check", word, frame + [size, size] + samples + [size] * 3),
+        ("strip_smoothed", word, frame + [byte, size, size] + samples * 4),
+        ("strip_smoothed_check", word, frame + [byte, size, size] + samples + [size] * 3),
         ("mosaic_back", word, frame + [size, size] + samples * 4),
         ("test_frame", word, [word, size, size] + samples),
         ("test_row", word, [word, size, size, size] + samples),
@@ -92,7 +95,7 @@ def _exact(number, bits=8 * ctypes.sizeof(ctypes.c_size_t)):
     return number
 
 
-def _layout(number):
+def _byte(number):
     number = operator.index(number)
     return number if 0 <= number <= 255 else 255
 
@@ -176,13 +179,22 @@ def piece_rows(height, first_row, rows):
     return _library.rokzimp_piece_rows(_exact(height), _exact(first_row), _exact(rows))
 
 
-def strip(width, height, layout, first_row, rows, piece, red, green, blue):
+def _calls(smoothing):
+    """The strip call, its check, and what stands behind the layout in both."""
+    if smoothing is None:
+        return _library.rokzimp_strip, _library.rokzimp_strip_check, ()
+    return _library.rokzimp_strip_smoothed, _library.rokzimp_strip_smoothed_check, (_byte(smoothing),)
+
+
+def strip(width, height, layout, first_row, rows, piece, red, green, blue, smoothing=None):
     """Fills rows first_row to first_row + rows - 1 of three planes of rows * width samples, from the rows of the mosaic that
-    piece_start and piece_rows name."""
+    piece_start and piece_rows name. Smoothing 0 weights the five differences of a direction evenly, 1 by 26, 24, 21, 17 and 12
+    hundredths from the pixel outward; where none is named it is 1."""
+    call, _, named = _calls(smoothing)
     with _Lent(piece) as p, _Lent(red, True) as r, _Lent(green, True) as g, _Lent(blue, True) as b:
         _apart([r, g, b], [p])
-        _raise(_library.rokzimp_strip(_size(width), _size(height), _layout(layout), _size(first_row), _size(rows), p.address, p.count,
-                                      r.address, r.count, g.address, g.count, b.address, b.count))
+        _raise(call(_size(width), _size(height), _byte(layout), *named, _size(first_row), _size(rows), p.address, p.count,
+                    r.address, r.count, g.address, g.count, b.address, b.count))
 
 
 _STACK = 2 ** 22  # bytes for a thread that fills strips: a strip takes less than 2 ** 20, and some systems give a thread less by default
@@ -203,12 +215,13 @@ def _in_threads(work, items, threads):
         each.result()
 
 
-def whole_frame(width, height, layout, mosaic, red=None, green=None, blue=None, strip_height=64, threads=1):
-    """Fills three planes of height * width samples from the whole mosaic, in strips of strip_height rows (the last may be lower).
-    Planes that are not lent are made, as array('H'). Returns the three. Everything is tested before the first strip is filled: a
-    refusal is that of one strip of all rows. With more than one thread the strips are filled side by side, and the planes are the
-    same; with one, in the thread that calls."""
-    width, height, layout = _size(width), _size(height), _layout(layout)
+def whole_frame(width, height, layout, mosaic, red=None, green=None, blue=None, strip_height=64, threads=1, smoothing=None):
+    """Fills three planes of height * width samples from the whole mosaic, in strips of strip_height rows (the last may be lower), all
+    of the smoothing that `strip` takes. Planes that are not lent are made, as array('H'). Returns the three. Everything is tested
+    before the first strip is filled: a refusal is that of one strip of all rows. With more than one thread the strips are filled side
+    by side, and the planes are the same; with one, in the thread that calls."""
+    call, check, named = _calls(smoothing)
+    frame = width, height, _ = _size(width), _size(height), _byte(layout)
     strip_height, threads = operator.index(strip_height), operator.index(threads)
     if strip_height < 1:
         raise ValueError("strip_height is below 1")
@@ -218,14 +231,13 @@ def whole_frame(width, height, layout, mosaic, red=None, green=None, blue=None, 
         planes = [_made(width, height) if plane is None else plane for plane in (red, green, blue)]
         with _Lent(planes[0], True) as r, _Lent(planes[1], True) as g, _Lent(planes[2], True) as b:
             _apart([r, g, b], [m])
-            _raise(_library.rokzimp_strip_check(width, height, layout, 0, height, m.address, m.count, r.count, g.count, b.count))
+            _raise(check(*frame, *named, 0, height, m.address, m.count, r.count, g.count, b.count))
 
             def fill(first):
                 rows = min(strip_height, height - first)
                 start, at = piece_start(first), 2 * first * width
-                _raise(_library.rokzimp_strip(width, height, layout, first, rows, m.address + 2 * start * width,
-                                              piece_rows(height, first, rows) * width, r.address + at, rows * width,
-                                              g.address + at, rows * width, b.address + at, rows * width))
+                _raise(call(*frame, *named, first, rows, m.address + 2 * start * width, piece_rows(height, first, rows) * width,
+                            r.address + at, rows * width, g.address + at, rows * width, b.address + at, rows * width))
 
             firsts = range(0, height, strip_height)
             if threads == 1:
@@ -245,7 +257,7 @@ def mosaic_back(width, height, layout, first_row, rows, red, green, blue, mosaic
         mosaic = _made(width, rows)
     with _Lent(red) as r, _Lent(green) as g, _Lent(blue) as b, _Lent(mosaic, True) as m:
         _apart([m], [r, g, b])
-        _raise(_library.rokzimp_mosaic_back(width, _size(height), _layout(layout), _size(first_row), rows, r.address, r.count,
+        _raise(_library.rokzimp_mosaic_back(width, _size(height), _byte(layout), _size(first_row), rows, r.address, r.count,
                                             g.address, g.count, b.address, b.count, m.address, m.count))
     return mosaic
 
@@ -304,7 +316,7 @@ def row_view(plane, width, row):
 def partner_view(red, blue, width, height, layout, row):
     """Row `row` of the red or of the blue plane, whichever shares that sensor row with green, as a memoryview of the part of it.
     Both planes start at row 0 of the frame."""
-    both, frame = (_samples(red), _samples(blue)), (_size(width), _size(height), _layout(layout), _size(row))
+    both, frame = (_samples(red), _samples(blue)), (_size(width), _size(height), _byte(layout), _size(row))
     with _Lent(both[0]) as r, _Lent(both[1]) as b:
         arguments = (r.address, r.count, b.address, b.count) + frame
         _raise(_library.rokzimp_partner_view_check(*arguments))

@@ -1,11 +1,13 @@
 #!/usr/bin/env python3
 """Turns a frame file into its three planes and a picture.
 
-    tools/frame_to_png.py FRAME OUT [ROWS]
+    tools/frame_to_png.py [--smoothing N] FRAME OUT [ROWS]
 
 FRAME is a file of document 01's format, of any size that the format allows, '-' for standard input. Writes OUT.red, OUT.green and
 OUT.blue, 16-bit samples, big-endian, row by row; and OUT.png, 8 bits for each colour, the samples' upper bytes. The frame is worked
-out in strips of ROWS rows (default 64). A refusal prints one line, as the small program does, and nothing is written."""
+out in strips of ROWS rows (default 64). Smoothing 0 is the small program's, and 1 the library's where none is named. A refusal prints
+one line, as the small program does, and nothing is written."""
+import argparse
 import array
 import os
 import struct
@@ -61,21 +63,24 @@ def png(width, height, red, green, blue):
 
 
 def main(words):
-    if len(words) not in (2, 3):
-        print(__doc__, file=sys.stderr)
-        return 2
-    data = sys.stdin.buffer.read() if words[0] == "-" else open(words[0], "rb").read()
+    parser = argparse.ArgumentParser(description=__doc__, formatter_class=argparse.RawDescriptionHelpFormatter)
+    parser.add_argument("--smoothing", type=int)
+    parser.add_argument("frame")
+    parser.add_argument("out")
+    parser.add_argument("rows", type=int, nargs="?", default=64)
+    asked = parser.parse_args(words)
+    data = sys.stdin.buffer.read() if asked.frame == "-" else open(asked.frame, "rb").read()
     try:
         width, height, layout, readings = read_frame(data)
-        planes = rokzimp.whole_frame(width, height, layout, readings, strip_height=int(words[2]) if len(words) == 3 else 64)
+        planes = rokzimp.whole_frame(width, height, layout, readings, strip_height=asked.rows, smoothing=asked.smoothing)
     except rokzimp.Refused as refused:
         print("refused %d" % refused.number)
         return 1
     samples = [big_endian(plane) for plane in planes]
     for name, body in zip(("red", "green", "blue"), samples):
-        with open(words[1] + "." + name, "wb") as out:
+        with open(asked.out + "." + name, "wb") as out:
             out.write(body)
-    with open(words[1] + ".png", "wb") as out:
+    with open(asked.out + ".png", "wb") as out:
         out.write(png(width, height, *(body[0::2] for body in samples)))
     return 0
 

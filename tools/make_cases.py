@@ -9,10 +9,11 @@ A line is a letter and then whole numbers, single spaces between them; a '#' lin
 S W H layout  entry choice method  a n  P R G B  width seed base down across oddrow oddcol checker from step kind amount shape at value at value first
   nb given advance {first count method smoothing}*given
     A strip call. P, R, G, B are the lengths of the piece and of the planes that are lent; from width to first it is the recipe of their contents.
-    entry, choice, method and the bands have their places for requests of document 02 that have not landed. A case names none of them, which is
-    0 255 255 and at the end 255 0 0, and the program does not read them. Entry 1 will be the preview's; and where a table is lent it has nb bands:
+    choice is the smoothing: up to 255 it is named, by rokzimp_strip_smoothed and its check; 256: none is, by rokzimp_strip and its check.
+    entry, method and the bands have their places for requests of document 02 that have not landed. A case names none of them, which is
+    0, 256 and at the end 255 0 0, and the program does not read them. Entry 1 will be the preview's; and where a table is lent it has nb bands:
     band t is number t % given of those given, 6 at the most, with advance (t / given) added to its first row.
-    Answer: the number of rokzimp_strip, that of rokzimp_strip_check, and for each plane sum, checksum, first and last sample.
+    Answer: the number of the call, that of the check, and for each plane sum, checksum, first and last sample.
 M W H layout a n  R G B M  width seed round  plane at value  plane at value
     The mosaic back from planes. R, G, B and M are the lengths of the planes and of the mosaic that are lent. In plane c (0 red, 1 green, 2 blue) a sample
     whose row and column, by width, have parities p and q is rounded down to a multiple of 16 if bit 4c + 2p + q of round is set; then two samples are set.
@@ -33,7 +34,7 @@ Q W H layout row red blue
 R H a n
     The rows that a strip is lent of the mosaic. Answer: rokzimp_piece_start and rokzimp_piece_rows.
 F choice c s s s s A A A A
-    Green of reading c by fusion of east, west, north, south: direction sums, and five-sums plus 2097152; choice is 0 and not read.
+    Green of reading c by fusion of east, west, north, south, with the weights of smoothing choice: direction sums, and five-sums plus 2097152.
     Answer: green in units.
 
 A line has 63 numbers at the most, and stdin no more bytes than the program has room for.
@@ -51,6 +52,7 @@ import os
 import random
 import re
 import sys
+import unittest.mock
 
 from stage import ROOT, RULES, STAGE
 import reference as r
@@ -61,7 +63,8 @@ NONE = 2 ** 63                       # a position that no piece has
 BIG = [2 ** 12 + 1, 2 ** 16, 2 ** 32 - 1, 2 ** 32, 2 ** 63, 2 ** 64 - 8, 2 ** 64 - 2, 2 ** 64 - 1]
 MOST_PIECE, MOST_PLANE = 4096 * 22, 4096 * 8 + 8
 LEAST = RULES.min_size               # of width and height
-NO_STYLE, NO_BANDS = [0, 255, 255], [255, 0, 0]
+UNNAMED = 256                        # a smoothing, or a method, that is not named
+NO_BANDS = [255, 0, 0]
 ABOVE_ZERO = 2 ** 21                 # added to a five-sum; above 16380 times the largest total of weights
 
 
@@ -130,10 +133,10 @@ def strip_of(v):
     """The numbers of the strip call and of its check, and the planes that it leaves."""
     (W, H, layout), (a, n, P, R, G, B, width, seed) = v[:3], v[6:14]
     p, puts, first = v[14:25], [(v[25], v[26]), (v[27], v[28])], v[29]
-    assert v[3:6] == NO_STYLE and v[30:] == NO_BANDS, v
+    assert v[3] == 0 and v[5] == UNNAMED and v[30:] == NO_BANDS, v
     piece = expand_piece(P, max(width, 1), seed, p, puts, first)
     planes = planes_of(seed, R, G, B)
-    f = r.Frame(W, H, layout)
+    f = r.Frame(W, H, layout, None if v[4] == UNNAMED else v[4])
     num = r.strip_number(RULES, f, a, n, piece, planes)
     return r.strip_call(RULES, f, a, n, piece, planes), num, planes
 
@@ -210,12 +213,25 @@ def answer_F(v):
 ANSWER = {'S': answer_S, 'M': answer_M, 'B': answer_B, 'J': answer_J, 'W': answer_W, 'L': answer_L, 'V': answer_V, 'Q': answer_Q, 'R': answer_R, 'F': answer_F}
 
 
+def inward(direction):
+    """Five-sums of which one direction (0 to 3) has its weights in the other order."""
+    right = r.Work.five_sums
+
+    def wrong(self, i, j, choice):
+        out = list(right(self, i, j, choice))
+        with unittest.mock.patch.dict(r.WEIGHTS, {choice: r.WEIGHTS[choice][::-1]}):
+            out[direction] = right(self, i, j, choice)[direction]
+        return out
+    return unittest.mock.patch.object(r.Work, 'five_sums', wrong)
+
+
 # ------------------------------------------------------------ cases
 class Maker:
     def __init__(self, seed):
         self.g = random.Random('cases/%d' % seed)
         self.seed = seed
         self.lines, self.answers, self.count = [], [], {}
+        self.turn = 0
 
     def add(self, kind, *numbers):
         v = list(numbers)
@@ -258,8 +274,9 @@ class Maker:
         return out
 
     # -------------------------------------------------------- a strip call
-    def strip(self, W, H, layout, a, n, recipe=None, puts=None, seed=None, P=None, planes=None, true=None, kind='S'):
-        """The lengths are the right ones of the call `true` (W, H, a, n), or of this one, unless they are given."""
+    def strip(self, W, H, layout, a, n, recipe=None, puts=None, seed=None, P=None, planes=None, true=None, kind='S', choice=None):
+        """The lengths are the right ones of the call `true` (W, H, a, n), or of this one, unless they are given. The smoothing is named evenly, or 1,
+        or not at all, in turn, unless it is given."""
         w, h, b, m = true or (W, H, a, n)
         lo, hi = r.strip_rows(h, b, m)
         P = (hi - lo) * w if P is None else P
@@ -268,7 +285,9 @@ class Maker:
         recipe = recipe or self.recipe(w, h)
         puts = self.impulses(P) if puts is None else puts + [(NONE, 0)] * (2 - len(puts))
         seed = r.jump(self.g.randrange(M32) if seed is None else seed, lo * w)
-        return self.add(kind, W, H, layout, *NO_STYLE, a, n, P, *planes, w, seed, *recipe.numbers(),
+        if choice is None:
+            choice, self.turn = (0, 1, UNNAMED)[self.turn % 3], self.turn + 1
+        return self.add(kind, W, H, layout, 0, choice, UNNAMED, a, n, P, *planes, w, seed, *recipe.numbers(),
                         *[n for put in puts for n in put], lo, *NO_BANDS)
 
     def cut(self, H):
@@ -294,11 +313,33 @@ class Maker:
 
     def cuts(self):
         self.note('one frame in every cut of 1 row and of several, and whole')
-        for W, H, layout in ((11, 19, 0), (8, 16, 1), (9, 23, 2), (12, 17, 3)):
+        for W, H, layout, choice in ((11, 19, 0, 0), (8, 16, 1, 1), (9, 23, 2, UNNAMED), (12, 17, 3, 0)):
             seed, rec = self.g.randrange(M32), self.recipe(W, H)
             for n in (1, self.g.randrange(2, 6), H):
                 for a in range(0, H, n):
-                    assert self.strip(W, H, layout, a, min(n, H - a), rec, [], seed)[0] == 0
+                    assert self.strip(W, H, layout, a, min(n, H - a), rec, [], seed, choice=choice)[0] == 0
+
+    def smoothings(self, count):
+        g = self.g
+        self.note('strips that name either smoothing or none, and 2 and 255; an edge across, so that no direction is like another')
+        told = [0] * 5                   # how many cases would show each direction's weights in the other order, and even weights
+        for k in range(count):
+            W, H = self.size(24), self.size(24)
+            rec = Recipe(base=g.randrange(500), down=g.randrange(1, 60), across=g.randrange(1, 60), from_=g.randrange(4, W + H - 4), step=g.randrange(800, 3000),
+                         amount=g.randrange(2, 400), shape=g.choice((0, 2)))
+            seed, (a, n) = g.randrange(M32), (0, H) if k % 2 else self.cut(H)
+
+            def call(choice):
+                return self.strip(W, H, k % 4, a, n, rec, [], seed, choice=choice)
+            even, tapered, unnamed = call(0), call(1), call(UNNAMED)
+            assert even[0] == tapered[0] == 0 and unnamed == tapered
+            for d in range(4):
+                with inward(d):
+                    told[d] += ANSWER['S'](list(map(int, self.lines[-1].split()[1:]))) != tapered
+            told[4] += even != tapered
+            for choice in (2, 255):
+                assert call(choice)[0] == 10
+        assert min(told) > count / 2, told
 
     def wide_and_tall(self):
         g = self.g
@@ -358,12 +399,12 @@ class Maker:
 
     def names(self, count):
         g = self.g
-        self.note('layouts 4 and 255, sizes off, rows off the frame, huge a and n')
+        self.note('layouts 4 and 255, sizes off, smoothings 2 to 255, rows off the frame, huge a and n')
         for k in range(count):
-            W, H, L = self.size(20), self.size(20), g.randrange(4)
+            W, H, L, choice = self.size(20), self.size(20), g.randrange(4), None
             a, n = self.cut(H)
             true = (W, H, a, n)
-            t = k % 6
+            t = k % 7
             if t == 0: L = g.choice((4, 5, 255))
             if t == 1: W = g.choice([0, 1, LEAST - 1, 4097] + BIG)
             if t == 2: H = g.choice([0, 1, LEAST - 1, 4097] + BIG)
@@ -371,18 +412,19 @@ class Maker:
             if t == 4: a = g.choice([H - n + 1, H] + BIG)
             if t == 5: a, n = g.choice(((2 ** 64 - 1, 1), (2 ** 64 - 1, 2), (2 ** 64 - n, n), (1, 2 ** 64 - 1), (a, 2 ** 64 - max(a, 1)),
                                         (2 ** 63, 2 ** 63), (2 ** 64 - 1, 2 ** 64 - 1), (H, 0), (H + 1, 0)))
-            assert self.strip(W, H, L, a, n, true=true)[0] in (1, 2, 3)
+            if t == 6: choice = g.choice((2, 3, 128, 255))
+            assert self.strip(W, H, L, a, n, true=true, choice=choice)[0] in (1, 2, 3, 10)
 
     def mixed(self, count):
         g = self.g
-        self.note('several faults at once: the lowest number counts')
+        self.note('several faults at once: the first in the order 1 2 10 3 4 5 6 counts')
         for _ in range(count):
-            W, H, L = self.size(20), self.size(20), g.randrange(4)
+            W, H, L, choice = self.size(20), self.size(20), g.randrange(4), None
             a, n = self.cut(H)
             true = (W, H, a, n)
             lo, hi = r.strip_rows(H, a, n)
             P, planes, puts = (hi - lo) * W, [n * W] * 3, []
-            for t in g.sample(range(7), g.choice((2, 2, 3, 4))):
+            for t in g.sample(range(8), g.choice((2, 2, 3, 4))):
                 if t == 0: W = g.choice([0, LEAST - 1, 4097] + BIG)
                 if t == 1: H = g.choice([0, LEAST - 1, 4097] + BIG)
                 if t == 2: L = g.choice((4, 255))
@@ -390,7 +432,8 @@ class Maker:
                 if t == 4: P += g.choice((1, -1))
                 if t == 5: planes[g.randrange(3)] += g.choice((1, -1))
                 if t == 6: puts = [(g.randrange(P), 4096)]
-            self.strip(W, H, L, a, n, puts=puts, P=P, planes=planes, true=true)
+                if t == 7: choice = g.choice((2, 255))
+            self.strip(W, H, L, a, n, puts=puts, P=P, planes=planes, true=true, choice=choice)
 
     # -------------------------------------------------------- the mosaic back
     def mosaic(self, W, H, layout, a, n, puts=(), lengths=None, true=None, bits=0):
@@ -583,8 +626,9 @@ class Maker:
     def fusions(self, count):
         g = self.g
         self.note('shares and fusion; exact halves')
-        for A in (3, 2, -2, -3):
-            self.fusion(0, 2000, [4] * 4, [A, 0, 0, 0])
+        for choice, halves in ((0, (3, 2, -2, -3)), (1, (50, 49, -50, -51))):
+            for A in halves:
+                self.fusion(choice, 2000, [4] * 4, [A, 0, 0, 0])
         mk = vectors.Maker(STAGE, self.seed)
         for _ in range(count):
             choice, *v = mk.F()[1:]
@@ -608,11 +652,12 @@ def main():
     m.figures()
     m.accepted(400)
     m.cuts()
+    m.smoothings(24)
     m.wide_and_tall()
     m.over_range(60)
     m.lengths(96)
-    m.names(120)
-    m.mixed(100)
+    m.names(140)
+    m.mixed(120)
     m.row_views(200)
     m.partner_views(240)
     m.fusions(600)

@@ -4,8 +4,9 @@
     python3 tools/make_figures.py SEED [DIRECTORY]     the committed files: SEED 38
 
 The values come from reference/ and from nothing else; the stage is tools/stage.py's. Each layout has a frame. A part of it is quiet, so that
-direction sums lie about the guard, a part is mild, and a part is wild, so that samples are stopped. A seed is taken only if the
-exact table has every kind of place, and if a guard one less or one more would change some green.
+direction sums lie about the guard, a part is mild, and a part is wild, so that samples are stopped. Two of them are smoothed evenly,
+one names smoothing 1 and one none. A seed is taken only if the exact table has every kind of place, exact greens at red and at blue
+pixels for either smoothing among them, and if a guard one less or one more would change some green.
 """
 import os
 import random
@@ -24,10 +25,16 @@ FRAMES = (
     (9, 9, lambda i, j: (i + j) // 2, 4, 6),
     (8, 8, lambda i, j: 7 - j, 4, 6),
 )
+SMOOTHING = None, 0, 1, 0            # by layout; None: the frame names none
 LONGEST = 120                        # digits of a fraction
 # what the exact table has to have, by what a value is worked out from and its plane, or by where it was stopped
 KINDS = {(s, k) for s in ('in its row', 'in its column', 'diagonal') for k in (r.R, r.B)} | {('Red', r.G), ('Blue', r.G), ('corner', 0), ('observed', 0)}
 KINDS |= {(s, x) for s in ('stopped', 'stopped green') for x in (0, r.TOP)}
+
+
+def described(layout):
+    """The frame description."""
+    return r.Frame(*FRAMES[layout][:2], layout, SMOOTHING[layout])
 
 
 def readings(g, layout):
@@ -107,7 +114,7 @@ def claim(name, kind, value):
 def guard_shows(frames, value):
     """Whether some green would be another with this guard."""
     def greens():
-        return [r.whole(RULES, r.Frame(*FRAMES[layout][:2], layout), frame)[r.G] for layout, frame in enumerate(frames)]
+        return [r.whole(RULES, described(layout), frame)[r.G] for layout, frame in enumerate(frames)]
     wanted = greens()
     with unittest.mock.patch.object(r, 'guard', lambda s: max(s, value)):
         return greens() != wanted
@@ -122,7 +129,7 @@ def make(seed, directory):
         'use Prim.Native.Nat.{ℕ}',
         'use mathlib.Core.List.{List, [], _∷_}',
         'use Rattle.bayer.specs.declared.frame.Frame.{Frame}',
-        'use Rattle.bayer.specs.Frame.{frame}',
+        'use Rattle.bayer.specs.Frame.{frame, smoothed}',
         'use Rattle.worked_planes.specs.PlanesClaim.{PlanesClaim, givesPlanes}',
     ]
     exact = head('Values of the exact reconstruction of the frames of worked_planes/specs/WorkedPlanes. proofs/ExactTable.antt has the theorem.', seed) + [
@@ -131,11 +138,12 @@ def make(seed, directory):
         'use Rattle.worked_exact.specs.ExactClaim.{Value, exactly, ExactClaim, givesExact}',
         'use Rattle.worked_planes.specs.WorkedPlanes.{%s}' % ', '.join('frame%s, readings%s' % (n, n) for n in LAST),
     ]
-    kinds = set()
+    kinds, greens = set(), set()
     for layout, n in enumerate(LAST):
-        f = r.Frame(FRAMES[layout][0], FRAMES[layout][1], layout)
+        f, smoothing = described(layout), SMOOTHING[layout]
         frame = frames[layout]
-        planes += claim('frame' + n, 'Frame', 'frame %d %d %d' % (f.W, f.H, layout))
+        named = 'frame %d %d %d' % (f.W, f.H, layout) if smoothing is None else 'smoothed %d %d %d %d' % (f.W, f.H, layout, smoothing)
+        planes += claim('frame' + n, 'Frame', named)
         planes += cells(f, 'readings' + n, frame)
         for name, plane in zip(PLANES, r.whole(RULES, f, frame)):
             planes += cells(f, name.lower() + n, plane)
@@ -143,10 +151,12 @@ def make(seed, directory):
         values = r.exact_planes(RULES, f, frame)
         chosen = places(g, f, values)
         kinds.update(chosen)
+        greens.update((smoothing == 0, kind) for kind in chosen if kind in (('Red', r.G), ('Blue', r.G)))
         exact += ['', 'abbrev pub values%s : List Value' % n, 'values%s =' % n] + lines(
             'exactly %s %d %d %d %d' % (PLANES[k], i, j, x.numerator, x.denominator) for k, i, j in sorted(chosen.values()) for x in [values[k][i * f.W + j]])
         exact += claim('exact' + n, 'ExactClaim', 'givesExact frame%s readings%s values%s' % (n, n, n))
     assert kinds == KINDS, 'the frames of this seed lack %s' % (KINDS - kinds)
+    assert len(greens) == 4, 'the frames of this seed lack an exact green of some smoothing'
     planes += claim('workedPlanes', 'List PlanesClaim', ' ∷ '.join('planes' + n for n in LAST) + ' ∷ []')
     exact += claim('workedExact', 'List ExactClaim', ' ∷ '.join('exact' + n for n in LAST) + ' ∷ []')
     for crate, name, text in (('worked_planes', 'WorkedPlanes', planes), ('worked_exact', 'WorkedExact', exact)):

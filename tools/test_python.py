@@ -56,9 +56,9 @@ def camera_planes(rng, width, layout, first, lengths):
 
 
 class Test(unittest.TestCase):
-    def refused(self, number, call, *arguments):
+    def refused(self, number, call, *arguments, **named):
         with self.assertRaises(Refused) as caught:
-            call(*arguments)
+            call(*arguments, **named)
         self.assertEqual(caught.exception.number, number)
         self.assertIn(rokzimp.WORDS[number][0], str(caught.exception))
 
@@ -133,6 +133,23 @@ class Test(unittest.TestCase):
                 whole_frame(8, 100, 0, mosaic, *lent, **wrong)
             self.assertNotIsInstance(caught.exception, Refused)
         self.assertEqual(lent, planes(800))
+
+    def test_smoothing_refused(self):
+        mosaic, lent = samples([100] * 64), planes(64)
+        for smoothing in (2, 3, 128, 255, 256, 257, -1, 2 ** 64):
+            self.refused(10, strip, 8, 8, 0, 0, 8, mosaic, *lent, smoothing=smoothing)
+            self.refused(10, whole_frame, 8, 8, 0, mosaic, *lent, smoothing=smoothing, threads=2)
+            # after 1 and 2, before all others
+            self.refused(1, strip, 7, 8, 0, 0, 8, mosaic, *lent, smoothing=smoothing)
+            self.refused(2, strip, 8, 8, 4, 0, 8, mosaic, *lent, smoothing=smoothing)
+            self.refused(10, strip, 8, 8, 0, 0, 0, samples([4096]), *planes(1), smoothing=smoothing)
+            self.refused(10, strip, 8, 8, 0, 2 ** 64 - 1, 2, mosaic, *lent, smoothing=smoothing)
+            self.refused(10, whole_frame, 8, 8, 0, mosaic[:63], *lent, smoothing=smoothing)
+        self.assertEqual(lent, planes(64))
+        with self.assertRaises(TypeError):
+            strip(8, 8, 0, 0, 8, mosaic, *lent, smoothing="1")
+        for smoothing in (0, 1):
+            strip(8, 8, 0, 0, 8, mosaic, *lent, smoothing=smoothing)
 
     def test_views_refused(self):
         plane, other = samples(range(80)), samples(range(80, 152))
@@ -231,8 +248,10 @@ class Test(unittest.TestCase):
         for width, height in ((8, 8), (13, 31), (20, 24)):
             mosaic, layout = random_mosaic(rng, width * height), rng.randrange(4)
             wanted = whole_frame(width, height, layout, mosaic, strip_height=height)
+            even = whole_frame(width, height, layout, mosaic, strip_height=height, smoothing=0)
             for rows in range(1, height + 3):
                 self.assertEqual(whole_frame(width, height, layout, mosaic, strip_height=rows), wanted)
+                self.assertEqual(whole_frame(width, height, layout, mosaic, strip_height=rows, smoothing=0, threads=2), even)
 
     def test_any_number_of_threads(self):
         rng = random.Random(6)
@@ -467,9 +486,13 @@ class Test(unittest.TestCase):
         rng = random.Random(4)
         for k in range(24):
             width, height, layout = rng.randrange(8, 20), rng.randrange(8, 20), k % 4
-            mosaic = random_mosaic(rng, width * height)
-            wanted = reference.whole(RULES, reference.Frame(width, height, layout), mosaic)
-            self.assertEqual([p.tolist() for p in whole_frame(width, height, layout, mosaic, strip_height=rng.randrange(1, 20))], wanted)
+            mosaic, got = random_mosaic(rng, width * height), []
+            for smoothing in (0, 1, None):
+                wanted = reference.whole(RULES, reference.Frame(width, height, layout, smoothing), mosaic)
+                got.append([p.tolist() for p in whole_frame(width, height, layout, mosaic, strip_height=rng.randrange(1, 20), smoothing=smoothing)])
+                self.assertEqual(got[-1], wanted)
+            self.assertEqual(got[2], got[1])
+            self.assertNotEqual(got[0], got[1])
 
     def test_reference_strips(self):
         rng = random.Random(5)
@@ -481,11 +504,11 @@ class Test(unittest.TestCase):
             piece = random_mosaic(rng, count)
             if count and rng.randrange(4) == 0:
                 piece[rng.randrange(count)] = 4096
-            wanted = [[5] * length for length in lengths]
-            number = reference.strip_call(RULES, reference.Frame(width, height, layout), first, rows, piece.tolist(), wanted)
+            wanted, smoothing = [[5] * length for length in lengths], rng.choice((None, 0, 0, 1, 1, 1, 2, 255))
+            number = reference.strip_call(RULES, reference.Frame(width, height, layout, smoothing), first, rows, piece.tolist(), wanted)
             got = [samples([5] * length) for length in lengths]
             try:
-                strip(width, height, layout, first, rows, piece, *got)
+                strip(width, height, layout, first, rows, piece, *got, smoothing=smoothing)
                 self.assertEqual(number, 0)
             except Refused as refused:
                 self.assertEqual(number, refused.number)
@@ -552,11 +575,13 @@ class Test(unittest.TestCase):
         mosaic = random_mosaic(random.Random(6), width * height)
         data = struct.pack(">BIHHB", 1, 5 + 2 * len(mosaic), width, height, 3) + struct.pack(">%dH" % len(mosaic), *mosaic)
         self.assertGreater(len(data), 8202)
-        code, said, files = self.run_tool(data, "7")
-        self.assertEqual((code, said), (0, b""))
-        wanted = whole_frame(width, height, 3, mosaic)
-        for name, plane in zip(("red", "green", "blue"), wanted):
-            self.assertEqual(files[name], struct.pack(">%dH" % len(plane), *plane))
+        for words, smoothing in (("7", "--smoothing", "0"), 0), (("--smoothing=1",), 1), (("7",), None):
+            code, said, files = self.run_tool(data, *words)
+            self.assertEqual((code, said), (0, b""))
+            wanted = whole_frame(width, height, 3, mosaic, smoothing=smoothing)
+            for name, plane in zip(("red", "green", "blue"), wanted):
+                self.assertEqual(files[name], struct.pack(">%dH" % len(plane), *plane))
+        self.assertEqual(self.run_tool(data, "--smoothing", "2"), (1, b"refused 10\n", {}))
         png, at, body = files["png"], 8, b""
         self.assertEqual(png[:8], b"\x89PNG\r\n\x1a\n")
         while at < len(png):
@@ -633,19 +658,23 @@ class Test(unittest.TestCase):
             self.assertEqual(self.run_seed(*words), (2, b"", None))
 
     def example(self):
-        """What the README's C example prints, by reference.py: a test frame, one strip of it, and the strip's first reading, which comes back."""
+        """What the README's C example prints, by reference.py: a test frame, one strip of it with no smoothing named and evenly smoothed, and
+        the strip's first reading, which comes back."""
         mosaic, planes = [0] * 320, [[0] * 32 for _ in range(3)]
         first, last = reference.strip_rows(20, 9, 2)
-        numbers = reference.walk(RULES, 0, 16, 20, mosaic), reference.strip_call(RULES, reference.Frame(16, 20, 0), 9, 2, mosaic[16 * first:16 * last], planes)
-        self.assertEqual(numbers, (0, 0))
-        return ["0 %d" % mosaic[0], "0 %d %d %d" % tuple(plane[0] for plane in planes), "0 %d %d" % (mosaic[144], mosaic[144])]
+        self.assertEqual(reference.walk(RULES, 0, 16, 20, mosaic), 0)
+        filled = []
+        for smoothing in (None, 0):
+            self.assertEqual(reference.strip_call(RULES, reference.Frame(16, 20, 0, smoothing), 9, 2, mosaic[16 * first:16 * last], planes), 0)
+            filled.append("0 %d %d %d" % tuple(plane[0] for plane in planes))
+        return ["0 %d" % mosaic[0], *filled, "0 %d %d" % (mosaic[144], mosaic[144])]
 
     def test_readme(self):
         """The README's C, Python, picture and frame file examples do what it says, and its printed lines are the committed ones."""
         with open(os.path.join(ROOT, "README.md")) as file:
             lines = [line[4:] for line in file if line.startswith("    ") or line == "\n"]
         printed = self.example()
-        self.assertTrue(any(line.endswith("# %s, then %s, then %s\n" % tuple(printed)) for line in lines))
+        self.assertTrue(any(line.endswith("# %s\n" % ", then ".join(printed)) for line in lines))
         for crate in "planes", "test_planes":
             with open(os.path.join(ROOT, "crates", crate, "stdout")) as file:
                 self.assertIn(file.read(), "".join(lines))
@@ -662,7 +691,7 @@ class Test(unittest.TestCase):
             subprocess.run(["gcc", "-I", os.path.join(ROOT, "include"), "-o", binary, source, library], check=True)
             self.assertEqual(subprocess.run([binary], capture_output=True, check=True).stdout.decode().splitlines(), printed)
             ran = subprocess.run([sys.executable, "-c", script], capture_output=True, check=True, cwd=ROOT)
-            self.assertEqual(ran.stdout, b"966 True\nTrue\n7 no such row\n")
+            self.assertEqual(ran.stdout, b"966 True\n7682 9032\nTrue\n7 no such row\n")
             frame = os.path.join(ROOT, "crates", "planes", "stdin")
             subprocess.run([os.path.join(ROOT, "tools", "frame_to_png.py"), frame, out], check=True)
             with open(out + ".red", "rb") as file:

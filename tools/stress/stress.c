@@ -123,17 +123,18 @@ static int after(const uint16_t *fill, const uint16_t *expected, size_t at, size
     return memcmp(fill + from, expected + from, (around_to(at, len) - from) * 2) == 0;
 }
 
-enum { NUMBERS = 10 }; /* 0 and the refusals */
+enum { NUMBERS = 11 }; /* 0 and the refusals */
 static Room piece, seen[3], plane[3];
 static uint16_t *expected[3];
 static uint64_t strips[NUMBERS], backs[NUMBERS], frames[NUMBERS], rows_made[NUMBERS], rows_seen[NUMBERS], partners[NUMBERS];
 static uint64_t calls, back_calls, frame_calls;
 
-typedef struct { uint64_t W, H, layout, a, n; } Call;
+typedef struct { uint64_t W, H, layout, a, n; int smoothing; } Call; /* smoothing -1: none is named */
 
 static Call whole_call(void) {
     Call c;
     c.layout = below(4);
+    c.smoothing = (int)below(3) - 1;
     for (;;) {
         c.W = size();
         c.H = size();
@@ -154,6 +155,17 @@ static void damage(Call *c, uint64_t which) { /* one of the five numbers, mostly
     }
 }
 
+/* the call and the check that name the smoothing, or none */
+static uint32_t strip_call(Call c, const uint16_t *p, size_t len, uint16_t *const q[3], const size_t lens[3]) {
+    if (c.smoothing < 0)
+        return rokzimp_strip(c.W, c.H, (uint8_t)c.layout, c.a, c.n, p, len, q[0], lens[0], q[1], lens[1], q[2], lens[2]);
+    return rokzimp_strip_smoothed(c.W, c.H, (uint8_t)c.layout, (uint8_t)c.smoothing, c.a, c.n, p, len, q[0], lens[0], q[1], lens[1], q[2], lens[2]);
+}
+static uint32_t strip_check(Call c, const uint16_t *p, size_t len, const size_t lens[3]) {
+    if (c.smoothing < 0) return rokzimp_strip_check(c.W, c.H, (uint8_t)c.layout, c.a, c.n, p, len, lens[0], lens[1], lens[2]);
+    return rokzimp_strip_smoothed_check(c.W, c.H, (uint8_t)c.layout, (uint8_t)c.smoothing, c.a, c.n, p, len, lens[0], lens[1], lens[2]);
+}
+
 static void strip_case(int twice) {
     static const char *const names[3] = {"the red plane", "the green plane", "the blue plane"};
     /* a whole call first */
@@ -165,8 +177,9 @@ static void strip_case(int twice) {
     int over = 0;
     if (!one_in(3))
         for (uint64_t k = 1 + below(2); k > 0; k--) {
-            uint64_t which = below(9);
+            uint64_t which = below(10);
             if (which < 5) damage(&call, which);
+            else if (which == 9) call.smoothing = (int)(one_in(2) ? 2 : one_in(2) ? 255 : below(256));
             else if (which == 5) len = other_length(len, call.W);
             else if (which == 6) { int c = (int)below(3); lens[c] = other_length(lens[c], call.W); }
             else over = 1;
@@ -186,12 +199,12 @@ static void strip_case(int twice) {
             at[c] = place(round, lens[c]);
             before(plane[c].fill, expected[c], at[c], lens[c], start + (uint64_t)c);
         }
-        int asked = strip_general(W, H, (int)layout, -1, -1, a, n, 0, -1, 0, piece.lent + from, len, expected[0] + at[0], lens[0],
+        int asked = strip_general(W, H, (int)layout, call.smoothing, -1, a, n, 0, -1, 0, piece.lent + from, len, expected[0] + at[0], lens[0],
                                   expected[1] + at[1], lens[1], expected[2] + at[2], lens[2]);
-        uint32_t got = rokzimp_strip(W, H, (uint8_t)layout, a, n, piece.lent + from, len, plane[0].lent + at[0], lens[0],
-                                     plane[1].lent + at[1], lens[1], plane[2].lent + at[2], lens[2]);
+        uint16_t *const lent[3] = {plane[0].lent + at[0], plane[1].lent + at[1], plane[2].lent + at[2]};
+        uint32_t got = strip_call(call, piece.lent + from, len, lent, lens);
         calls++;
-        same("the number of the check", rokzimp_strip_check(W, H, (uint8_t)layout, a, n, piece.lent + from, len, lens[0], lens[1], lens[2]), (uint64_t)asked);
+        same("the number of the check", strip_check(call, piece.lent + from, len, lens), (uint64_t)asked);
         same("the strip's number", got, (uint64_t)asked);
         strips[got < NUMBERS ? got : 0]++;
         for (int c = 0; c < 3; c++)
@@ -388,7 +401,7 @@ static void view_cases(int at_start) {
 
 static void show(const char *what, const uint64_t *counts) {
     static const char *const words[NUMBERS] = {"accepted", "off size", "unknown layout", "off the frame", "short halo", "plane misfit",
-                                               "over range", "no such row", "torn file", "not camera planes"};
+                                               "over range", "no such row", "torn file", "not camera planes", "unknown smoothing"};
     printf("%s:", what);
     for (int k = 0; k < NUMBERS; k++)
         if (counts[k]) printf("  %s %llu", words[k], (unsigned long long)counts[k]);

@@ -5,7 +5,7 @@ use mathlib.Core.Bool.{Bool, true, false, cond, true≢false}
 use mathlib.Core.List.{List, [], _∷_, _++_}
 use native.Mathlib.Omega.{arith}
 use Rattle.lists.specs.Every.{Every}
-use Rattle.bayer.specs.Refusal.{Refusal, sizeOutOfRange, unknownLayout, rowsOutsideFrame, wrongPieceLength, wrongPlaneLength, readingOutOfRange, rowMissing, malformedFile, notCameraPlanes, number, Case, firstOf, heldAfter, Delivers}
+use Rattle.bayer.specs.Refusal.{Refusal, sizeOutOfRange, unknownLayout, rowsOutsideFrame, wrongPieceLength, wrongPlaneLength, readingOutOfRange, rowMissing, malformedFile, notCameraPlanes, unknownSmoothing, number, Case, firstOf, heldAfter, Delivers}
 
 pub number-positive : (r : Refusal) → 0 < number r
 number-positive sizeOutOfRange = omega arith
@@ -17,6 +17,7 @@ number-positive readingOutOfRange = omega arith
 number-positive rowMissing = omega arith
 number-positive malformedFile = omega arith
 number-positive notCameraPlanes = omega arith
+number-positive unknownSmoothing = omega arith
 
 -- ---- lists of conditions, one after the other
 

@@ -5,7 +5,7 @@ use mathlib.Core.List.{List, [], _∷_, _++_}
 use lib.Dec.{ltb, eqb}
 use Rattle.lists.specs.Bound.{anyAbove}
 use Rattle.bayer.specs.declared.frame.Frame.{Frame}
-use Rattle.bayer.specs.Refusal.{Case, _when_, sizeOutOfRange, unknownLayout, rowsOutsideFrame, wrongPlaneLength, readingOutOfRange}
+use Rattle.bayer.specs.Refusal.{Case, _when_, sizeOutOfRange, unknownLayout, unknownSmoothing, rowsOutsideFrame, wrongPlaneLength, readingOutOfRange}
 
 -- 1, for a width or a height: outside 8 to 4096
 abbrev pub outsideSizes : ℕ → Bool
@@ -21,7 +21,7 @@ outsideLayouts layout = ltb 3 layout
 abbrev pub layoutCases : (layout : ℕ) → List Case
 layoutCases layout = (unknownLayout when outsideLayouts layout) ∷ []
 
--- both, of a frame description
+-- 1 and 2, of a frame description
 abbrev pub frameCases : Frame → List Case
 frameCases f = sizeCases (f .width) (f .height) ++ layoutCases (f .layout)
 
@@ -32,6 +32,10 @@ pub record FrameFits (f : Frame) : Type 0 where
   pub high : 8 ≤ f .height
   pub low : f .height ≤ 4096
   pub known : f .layout ≤ 3
+
+-- 10, which strip calls test, and no other routine that takes a frame: a smoothing above 1
+abbrev pub smoothingCases : (smoothing : ℕ) → List Case
+smoothingCases smoothing = (unknownSmoothing when ltb 1 smoothing) ∷ []
 
 -- 3, of n rows from row a on: there is none, or they run past the frame
 abbrev pub rowsOutside : (H a n : ℕ) → Bool

@@ -5,7 +5,7 @@ use mathlib.Core.Bool.{Bool, cond}
 use mathlib.Core.List.{List, [], _∷_}
 
 pub data Refusal : Type 0 where
-  sizeOutOfRange unknownLayout rowsOutsideFrame wrongPieceLength wrongPlaneLength readingOutOfRange rowMissing malformedFile notCameraPlanes : Refusal
+  sizeOutOfRange unknownLayout rowsOutsideFrame wrongPieceLength wrongPlaneLength readingOutOfRange rowMissing malformedFile notCameraPlanes unknownSmoothing : Refusal
 
 -- the papers' number, and their word
 abbrev pub number : Refusal → ℕ
@@ -27,6 +27,8 @@ number rowMissing = 7
 number malformedFile = 8
 -- "not camera planes"
 number notCameraPlanes = 9
+-- "unknown smoothing"
+number unknownSmoothing = 10
 
 -- a refusal, and whether its condition holds
 pub record Case : Type 0 where

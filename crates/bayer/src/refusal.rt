@@ -16,3 +16,5 @@ pub const ROW_MISSING: u32 = 7;
 pub const MALFORMED_FILE: u32 = 8;
 
 pub const NOT_CAMERA_PLANES: u32 = 9;
+
+pub const UNKNOWN_SMOOTHING: u32 = 10;

@@ -4,7 +4,7 @@ ghost use Prim.Native.Nat.{_*_};
 ghost use lib.ListN.{length};
 ghost use Rattle.lists.specs.Part.{rowOf};
 ghost use Rattle.bayer.specs.Colour.{partner};
-ghost use Rattle.bayer.specs.Frame.{frame};
+ghost use Rattle.bayer.specs.Frame.{frame, smoothed};
 ghost use Rattle.bayer.specs.Piece.{pieceStart, pieceRows};
 ghost use Rattle.bayer.specs.View.{rowViewNumber, partnerViewNumber, shown, shownFrom};
 ghost use Rattle.bayer.specs.Planes.{planeOf, threePlanes};
@@ -32,7 +32,7 @@ use test_frames::frame::test_frame;
 use test_frames::frame::test_row;
 use test_frames::jump::jump;
 
-// The number of a strip call that is lent planes of these lengths: 0, or its refusal.
+// The number of a strip call that names no smoothing, and is lent planes of these lengths: 0, or its refusal.
 #[no_mangle]
 pub extern "C" fn rokzimp_strip_check(
     width: usize,
@@ -51,7 +51,7 @@ pub extern "C" fn rokzimp_strip_check(
     strip_check(frame, a, n, piece, red, green, blue)
 }
 
-// Rows a to a + n - 1 of the three planes.
+// Rows a to a + n - 1 of the three planes, with no smoothing named.
 #[no_mangle]
 pub extern "C" fn rokzimp_strip(
     width: usize,
@@ -67,6 +67,45 @@ pub extern "C" fn rokzimp_strip(
     ensures { λ r. ⌜ Promise (asked (frame width height layout) a n (now (piece .entry))) (threePlanes (now (red .entry)) (now (green .entry)) (now (blue .entry))) r (threePlanes (now (red .exit)) (now (green .exit)) (now (blue .exit))) ⌝ }
 {
     let frame = Frame::new(width, height, layout);
+    strip(frame, a, n, piece, red, green, blue)
+}
+
+// The same, with a smoothing that is named.
+#[no_mangle]
+pub extern "C" fn rokzimp_strip_smoothed_check(
+    width: usize,
+    height: usize,
+    layout: u8,
+    smoothing: u8,
+    a: usize,
+    n: usize,
+    piece: &[u16],
+    red: usize,
+    green: usize,
+    blue: usize,
+) -> u32
+    ensures { λ r. ⌜ r ≡ stripNumber (asked (smoothed width height layout smoothing) a n (now (piece .entry))) red green blue ⌝ }
+{
+    let frame = Frame::smoothed(width, height, layout, smoothing);
+    strip_check(frame, a, n, piece, red, green, blue)
+}
+
+#[no_mangle]
+pub extern "C" fn rokzimp_strip_smoothed(
+    width: usize,
+    height: usize,
+    layout: u8,
+    smoothing: u8,
+    a: usize,
+    n: usize,
+    piece: &[u16],
+    red: &mut [u16],
+    green: &mut [u16],
+    blue: &mut [u16],
+) -> u32
+    ensures { λ r. ⌜ Promise (asked (smoothed width height layout smoothing) a n (now (piece .entry))) (threePlanes (now (red .entry)) (now (green .entry)) (now (blue .entry))) r (threePlanes (now (red .exit)) (now (green .exit)) (now (blue .exit))) ⌝ }
+{
+    let frame = Frame::smoothed(width, height, layout, smoothing);
     strip(frame, a, n, piece, red, green, blue)
 }
 

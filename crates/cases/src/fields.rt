@@ -59,8 +59,8 @@ pub fn read(line: &[u8], f: &mut Fields) {
     }
 }
 
-// A layout's number.
-pub fn layout(x: usize) -> u8 {
+// A layout, or a smoothing.
+pub fn byte(x: usize) -> u8 {
     (x % 256) as u8
 }
 

@@ -2,12 +2,13 @@ ghost use Prim.Native.Nat.{_≤_};
 ghost use lib.IntN.{natAbs};
 ghost use Rattle.gbtf.specs.Machine.{Fitting};
 use crate::fields::Fields;
+use crate::fields::byte;
 use crate::print;
 use gbtf::direction::Direction;
 use gbtf::fusion::green;
 use gbtf::weights::SCALE;
-use gbtf::weights::WEIGHTS;
 use gbtf::weights::total;
+use gbtf::weights::weights_of;
 
 // A five-sum, which the case gives with 2097152 added.
 fn five_sum(a: usize) -> i64
@@ -37,7 +38,7 @@ pub fn run(f: &Fields) {
     let south = direction(f[6], f[10]);
     let g = green(
         SCALE,
-        total(WEIGHTS),
+        total(weights_of(byte(f[1]))),
         reading(f[2]),
         east,
         west,

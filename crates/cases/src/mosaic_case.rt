@@ -1,12 +1,12 @@
 // The mosaic back from planes, as C calls it: the arguments by their places in include/rokzimp.h.
 use crate::fields::Fields;
-use crate::fields::layout;
+use crate::fields::byte;
 use crate::fields::least;
 use crate::print;
 use crate::recipe;
+use crate::strip_case;
 use capi::rokzimp_mosaic_back;
 use capi::rokzimp_mosaic_back_check;
-use capi::rokzimp_strip;
 
 // The answer of a call of rows a to a + n - 1: the call's number, the check's, and the mosaic.
 fn call<'a>(
@@ -21,7 +21,7 @@ fn call<'a>(
     let first = rokzimp_mosaic_back_check(
         f[1],
         f[2],
-        layout(f[3]),
+        byte(f[3]),
         a,
         n,
         red,
@@ -29,7 +29,7 @@ fn call<'a>(
         blue,
         mosaic.len(),
     );
-    let got = rokzimp_mosaic_back(f[1], f[2], layout(f[3]), a, n, red, green, blue, mosaic);
+    let got = rokzimp_mosaic_back(f[1], f[2], byte(f[3]), a, n, red, green, blue, mosaic);
     io::print_decimal(1, print::word(got));
     print::number(print::word(first));
     print::plane(mosaic);
@@ -86,17 +86,7 @@ fn there_and_back(
     blue: &mut [u16],
     mosaic: &mut [u16],
 ) {
-    rokzimp_strip(
-        f[1],
-        f[2],
-        layout(f[3]),
-        f[7],
-        f[8],
-        piece,
-        red,
-        green,
-        blue,
-    );
+    strip_case::call(f, piece, red, green, blue);
     call(f, f[7], f[8], red, green, blue, mosaic);
 }
 

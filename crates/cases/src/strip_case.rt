@@ -1,10 +1,12 @@
 use crate::fields::Fields;
-use crate::fields::layout;
+use crate::fields::byte;
 use crate::fields::least;
 use crate::print;
 use crate::recipe;
 use capi::rokzimp_strip;
 use capi::rokzimp_strip_check;
+use capi::rokzimp_strip_smoothed;
+use capi::rokzimp_strip_smoothed_check;
 
 // The answer: the two numbers, and the planes.
 fn show(got: u32, first: u32, red: &[u16], green: &[u16], blue: &[u16]) {
@@ -16,30 +18,55 @@ fn show(got: u32, first: u32, red: &[u16], green: &[u16], blue: &[u16]) {
     io::write_all(1, b"\n");
 }
 
-// The number that the check gives, then the call, as C calls them: the arguments by their places in include/rokzimp.h.
-fn call(f: &Fields, piece: &[u16], red: &mut [u16], green: &mut [u16], blue: &mut [u16]) {
-    let first = rokzimp_strip_check(
+// The call, as C calls it: the arguments by their places in include/rokzimp.h. A smoothing above 255 is none that is named.
+pub fn call(
+    f: &Fields,
+    piece: &[u16],
+    red: &mut [u16],
+    green: &mut [u16],
+    blue: &mut [u16],
+) -> u32 {
+    let layout = byte(f[3]);
+    if 255 < f[5] {
+        return rokzimp_strip(f[1], f[2], layout, f[7], f[8], piece, red, green, blue);
+    }
+    rokzimp_strip_smoothed(
         f[1],
         f[2],
-        layout(f[3]),
-        f[7],
-        f[8],
-        piece,
-        red.len(),
-        green.len(),
-        blue.len(),
-    );
-    let got = rokzimp_strip(
-        f[1],
-        f[2],
-        layout(f[3]),
+        layout,
+        byte(f[5]),
         f[7],
         f[8],
         piece,
         red,
         green,
         blue,
-    );
+    )
+}
+
+// The number that its check gives.
+fn check(f: &Fields, piece: &[u16], red: usize, green: usize, blue: usize) -> u32 {
+    let layout = byte(f[3]);
+    if 255 < f[5] {
+        return rokzimp_strip_check(f[1], f[2], layout, f[7], f[8], piece, red, green, blue);
+    }
+    rokzimp_strip_smoothed_check(
+        f[1],
+        f[2],
+        layout,
+        byte(f[5]),
+        f[7],
+        f[8],
+        piece,
+        red,
+        green,
+        blue,
+    )
+}
+
+fn check_and_call(f: &Fields, piece: &[u16], red: &mut [u16], green: &mut [u16], blue: &mut [u16]) {
+    let first = check(f, piece, red.len(), green.len(), blue.len());
+    let got = call(f, piece, red, green, blue);
     show(got, first, red, green, blue);
 }
 
@@ -50,7 +77,7 @@ fn lend(f: &Fields, piece: &mut [u16], red: &mut [u16], green: &mut [u16], blue:
     recipe::plane(seed + 1, red);
     recipe::plane(seed + 2, green);
     recipe::plane(seed + 3, blue);
-    call(f, piece, red, green, blue);
+    check_and_call(f, piece, red, green, blue);
 }
 
 // As much of the room as the case asks for.

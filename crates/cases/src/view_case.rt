@@ -1,7 +1,7 @@
 // Views. The number, the plane, the start and the length are what C is told, the arguments by their places in
-// include/rokzimp.h; the checksum is of what the view of crate bayer shows.
+// include/rokzimp.h; the checksum is of what the view of crate bayer shows, of a frame whose smoothing is unknown: no view tests it.
 use crate::fields::Fields;
-use crate::fields::layout;
+use crate::fields::byte;
 use crate::fields::least;
 use crate::print;
 use crate::recipe;
@@ -57,7 +57,7 @@ fn plane_shown(number: u32, layout: u8, row: usize) -> u32 {
 }
 
 fn partner<'a>(f: &Fields, red: &'a [u16], blue: &'a [u16]) {
-    let l = layout(f[3]);
+    let l = byte(f[3]);
     let number = rokzimp_partner_view_check(red, blue, f[1], f[2], l, f[4]);
     let start = rokzimp_partner_view_start(red, blue, f[1], f[2], l, f[4]);
     let length = rokzimp_partner_view_length(red, blue, f[1], f[2], l, f[4]);
@@ -66,7 +66,7 @@ fn partner<'a>(f: &Fields, red: &'a [u16], blue: &'a [u16]) {
     shown(
         start,
         length,
-        partner_view(red, blue, Frame::new(f[1], f[2], l), f[4]),
+        partner_view(red, blue, Frame::smoothed(f[1], f[2], l, 255), f[4]),
     );
 }
 

@@ -33,7 +33,7 @@ use Rattle.worked_planes.proofs.PlaneTests.{planes-are}
 smallest-of-equal : (a b c d : ℕ) → a ≡ b → a ≡ c → a ≡ d → min a (min b (min c d)) ≡ a
 smallest-of-equal a b c d p q r = omega arith
 
-module _ (sum : ℤ) (e w n s : Direction) (p : guardedSum e ≡ guardedSum w) (q : guardedSum e ≡ guardedSum n) (r : guardedSum e ≡ guardedSum s) (h : e .five +ℤ w .five +ℤ n .five +ℤ s .five ≡ sum) where
+module _ (T : ℕ) (sum : ℤ) (e w n s : Direction) (p : guardedSum e ≡ guardedSum w) (q : guardedSum e ≡ guardedSum n) (r : guardedSum e ≡ guardedSum s) (h : e .five +ℤ w .five +ℤ n .five +ℤ s .five ≡ sum) where
   abbrev others : List Direction
   others = w ∷ n ∷ s ∷ []
 
@@ -52,18 +52,21 @@ module _ (sum : ℤ) (e w n s : Direction) (p : guardedSum e ≡ guardedSum w) (
   S-is : shares scale (smallestSum e others) (e ∷ others) ≡ 4 * scale
   S-is = λ x. share-is (guardedSum e) refl x + (share-is (guardedSum w) p x + (share-is (guardedSum n) q x + (share-is (guardedSum s) r x + 0)))
 
-  adds-is : adds e others ≡ fusion (pos scale *ℤ sum) (4 * scale) 5
-  adds-is = ap₂ (λ N S. fusion N S 5) N-is S-is
+  adds-is : adds T e others ≡ fusion (pos scale *ℤ sum) (4 * scale) T
+  adds-is = ap₂ (λ N S. fusion N S T) N-is S-is
 
--- ---- the greens of the two frames
+-- ---- the greens of the two frames, by either smoothing
 
-greens-400 : T (planeIs frame8 (readings8 400 200 100) Green (λ i j. 3200))
+abbrev Greens : (smoothing red green blue : ℕ) (value : ℕ) → Type 0
+Greens smoothing red green blue value = T (planeIs (frame8 smoothing) (readings8 red green blue) Green (λ i j. value))
+
+greens-400 : Greens 0 400 200 100 3200 × Greens 1 400 200 100 3200
 unfolding colours colourAt mirror rowOf difference fusion green DH DV GH GV greenAt greens sample
-greens-400 = tt
+greens-400 = (tt, tt)
 
-greens-4095 : T (planeIs frame8 (readings8 4095 0 0) Green (λ i j. 0))
+greens-4095 : Greens 0 4095 0 0 0 × Greens 1 4095 0 0 0
 unfolding colours colourAt mirror rowOf difference fusion green DH DV GH GV greenAt greens sample
-greens-4095 = tt
+greens-4095 = (tt, tt)
 
 -- ---- the table
 
@@ -73,13 +76,17 @@ figures-hold =
     tt and tt
     and tt
     and tt and tt
-    and adds-is (pos 3) and adds-is (pos 2) and adds-is (negsuc 1) and adds-is (negsuc 2)
+    and adds-is 5 (pos 3) and adds-is 5 (pos 2) and adds-is 5 (negsuc 1) and adds-is 5 (negsuc 2)
+    and adds-is 100 (pos 50) and adds-is 100 (pos 49) and adds-is 100 (negsuc 49) and adds-is 100 (negsuc 50)
     and tt and tt and tt
-    and planes-are frame8 (readings8 400 200 100) (λ i j. 3200) (lit≤ tt) (lit≤ tt) greens-400 (λ i j. 6400) (λ i j. 1600) tt tt
-    and planes-are frame8 (readings8 4095 0 0) (λ i j. 0) (lit≤ tt) (lit≤ tt) greens-4095 (λ i j. 65520) (λ i j. 0) tt tt
+    and planes-are (frame8 0) (readings8 400 200 100) (λ i j. 3200) (lit≤ tt) (lit≤ tt) (greens-400 .0) (λ i j. 6400) (λ i j. 1600) tt tt
+    and planes-are (frame8 1) (readings8 400 200 100) (λ i j. 3200) (lit≤ tt) (lit≤ tt) (greens-400 .1) (λ i j. 6400) (λ i j. 1600) tt tt
+    and planes-are (frame8 0) (readings8 4095 0 0) (λ i j. 0) (lit≤ tt) (lit≤ tt) (greens-4095 .0) (λ i j. 65520) (λ i j. 0) tt tt
+    and planes-are (frame8 1) (readings8 4095 0 0) (λ i j. 0) (lit≤ tt) (lit≤ tt) (greens-4095 .1) (λ i j. 65520) (λ i j. 0) tt tt
     and tt and tt and tt and tt
     and tt and tt and tt
-    and tt
+    and tt and tt
+    and (refl, refl) and (refl, refl) and refl
     and refl and refl and refl and refl and refl
     and refl and refl
     and refl and refl and refl

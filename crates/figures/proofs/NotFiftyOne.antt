@@ -25,19 +25,19 @@ use Rattle.strip.proofs.Demand2.{accepted-plane}
 use Rattle.figures.specs.Figures.{frame8}
 use Rattle.figures.specs.Sharpness.{readings51}
 
-pub not-51 : Within (natural (sample frame8 0 readings51 Green 2 2)) (exactSample frame8 0 readings51 Green 2 2) 51 100 → ⊥
+pub not-51 : Within (natural (sample (frame8 0) 0 readings51 Green 2 2)) (exactSample (frame8 0) 0 readings51 Green 2 2) 51 100 → ⊥
 unfolding colours colourAt mirror rowOf difference fusion green DH DV GH GV greenAt greens sumOver/t² exactGreen exactGreenAt exactGreens sample exactSample
 not-51 h = le→leb _ _ (h .low)
 
 -- a strip call over the whole frame accepts it
-pub accepted-51 : stripNumber (asked frame8 0 8 readings51) 64 64 64 ≡ 0
+pub accepted-51 : stripNumber (asked (frame8 0) 0 8 readings51) 64 64 64 ≡ 0
 unfolding firstOf any stripNumber
 accepted-51 = refl
 
 -- and if it keeps the contract, it delivers that green
-pub delivered-51 : (lent after : Planes) (answer : ℕ) → ((k : Colour) → length (lent k) ≡ 64) → Promise (asked frame8 0 8 readings51) lent answer after
-    → (answer ≡ 0) × (Within (natural (getD (after Green) 18 0)) (exactSample frame8 0 readings51 Green 2 2) 51 100 → ⊥)
+pub delivered-51 : (lent after : Planes) (answer : ℕ) → ((k : Colour) → length (lent k) ≡ 64) → Promise (asked (frame8 0) 0 8 readings51) lent answer after
+    → (answer ≡ 0) × (Within (natural (getD (after Green) 18 0)) (exactSample (frame8 0) 0 readings51 Green 2 2) 51 100 → ⊥)
 delivered-51 lent after answer h p =
     let e : answer ≡ 0 = p .number ∙ rw (h Red, h Green, h Blue) accepted-51 in
-    let v : getD (after Green) 18 0 ≡ sample frame8 0 readings51 Green 2 2 = ap (λ l. getD l 18 0) (accepted-plane p e Green) ∙ plane-at frame8 0 readings51 0 8 Green 2 2 (lit≤ tt) (lit≤ tt) in
-    (e, λ w. not-51 (subst (λ x. Within (natural x) (exactSample frame8 0 readings51 Green 2 2) 51 100) v w))
+    let v : getD (after Green) 18 0 ≡ sample (frame8 0) 0 readings51 Green 2 2 = ap (λ l. getD l 18 0) (accepted-plane p e Green) ∙ plane-at (frame8 0) 0 readings51 0 8 Green 2 2 (lit≤ tt) (lit≤ tt) in
+    (e, λ w. not-51 (subst (λ x. Within (natural x) (exactSample (frame8 0) 0 readings51 Green 2 2) 51 100) v w))

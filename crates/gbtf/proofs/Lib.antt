@@ -1,7 +1,7 @@
 pub mod PixelBounds
 pub mod MachineBounds
-pub mod PrintedForms
 pub mod Mean
+pub mod PrintedForms
 pub mod GreenError
 pub mod GreenBound
 pub mod GreenLocal

@@ -1,4 +1,4 @@
--- Shares and fusion (source 004, equations 9, 10 and 12): green at a red or blue pixel, from its directions. K is the share scale (2^24), T the total of the five-sum's weights (5).
+-- Shares and fusion (source 004, equations 9, 10 and 12): green at a red or blue pixel, from its directions. K is the share scale (2^24), T the total of the weights (5 or 100).
 -- Over a first direction d and any list l of others, of which document 01 has three. Assumes nothing.
 use Prim.Native.Nat.{ℕ, _+_, _*_, _/_, min}
 use mathlib.Core.List.{List, [], _∷_}

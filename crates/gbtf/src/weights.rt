@@ -1,11 +1,22 @@
 // The share scale, and the weights of the five differences.
 ghost use mathlib.Core.Path.{_≡_};
-ghost use Prim.Native.Nat.{_<_};
+ghost use Prim.Native.Nat.{_≤_, _<_};
 ghost use Rattle.gbtf.specs.Direction.{total};
+ghost use Rattle.gbtf.specs.Weights.{weightsOf};
 
 pub const SCALE: u64 = 16777216;
 
-pub const WEIGHTS: [u8; 5] = [1, 1, 1, 1, 1];
+// The weights by the frame description's smoothing, from the pixel outward: even, or in hundredths. Their total is what the code of fusion has room for.
+pub fn weights_of(smoothing: u8) -> [u8; 5]
+    ensures { λ r. ⌜ r ≡ weightsOf smoothing ⌝ }
+    ensures { λ r. ⌜ (0 < total r) × (total r ≤ 128) ⌝ }
+{
+    if smoothing == 0 {
+        [1, 1, 1, 1, 1]
+    } else {
+        [26, 24, 21, 17, 12]
+    }
+}
 
 fn wide(weight: u8) -> u64
     ensures { λ r. ⌜ (r ≡ weight) × (r < 256) ⌝ }

@@ -23,7 +23,6 @@ use Rattle.bayer.proofs.LentLaws.{row-inside}
 use Rattle.bayer.proofs.ParityLaws.{odd-by, starts-below, starts-next}
 use Rattle.gbtf.specs.Bounds.{mostDifference, mostGradient}
 use Rattle.gbtf.specs.Difference.{difference, plainGradient}
-use Rattle.gbtf.specs.Direction.{total}
 use Rattle.gbtf.specs.GreenAt.{greenAt}
 use Rattle.green_row.specs.AlongAxis.{differenceIn, plainGradientIn, gradientIn}
 use Rattle.green_row.specs.GreenIn.{greenIn}
@@ -235,13 +234,13 @@ module _ {f : Frame} {first : ℕ} {rows : List ℕ} {v b s o : ℕ} {x : List �
     dv-within : AllWithin mostDifference dv
     dv-within = columns-within f first rows v b s o (z .x-is) small
 
-    pub ready : (ws : List ℕ) → 0 < total ws → total ws ≤ 128 → (out sums : List ℕ) (fives : List ℤ) → length out ≡ b * f .width → length sums ≡ 4 * f .width → length fives ≡ 4 * f .width
-        → ((o < 2) × (AllAtMost 4095 own) × (length own ≡ b * f .width) × (length out ≡ b * f .width) × (f .width + 14 ≤ s) × (s ≤ 4111) × (b ≤ 4) × (0 < total ws) × (total ws ≤ 128))
+    pub ready : (out sums : List ℕ) (fives : List ℤ) → length out ≡ b * f .width → length sums ≡ 4 * f .width → length fives ≡ 4 * f .width
+        → ((o < 2) × (AllAtMost 4095 own) × (length own ≡ b * f .width) × (length out ≡ b * f .width) × (f .width + 14 ≤ s) × (s ≤ 4111) × (b ≤ 4))
         × (((length (take (m + 2 * s - 0) d) ≡ m + 2 * s) × (length (take (length d - (m + 2 * s)) (drop (m + 2 * s) d)) ≡ m + 8 * s) × (length (take (m + 2 * s - 4 - 0) g) ≡ m + 2 * s - 4)
         × (length (take (length g - (m + 2 * s - 4)) (drop (m + 2 * s - 4) g)) ≡ m + 4 * s) × (length sums ≡ 4 * f .width) × (length fives ≡ 4 * f .width))
         × ((AllWithin mostDifference (take (m + 2 * s - 0) d)) × (AllWithin mostDifference (take (length d - (m + 2 * s)) (drop (m + 2 * s) d))) × (AllAtMost mostGradient (take (m + 2 * s - 4 - 0) g))
         × (AllAtMost mostGradient (take (length g - (m + 2 * s - 4)) (drop (m + 2 * s - 4) g)))))
-    ready ws h k out sums fives e e₁ e₂ =
+    ready out sums fives e e₁ e₂ =
         rw (dh-part, dv-part, gh-part, gv-part) (
           (
             omega (arith, z .starts, starts-below (f .layout) v),
@@ -251,8 +250,6 @@ module _ {f : Frame} {first : ℕ} {rows : List ℕ} {v b s o : ℕ} {x : List �
             z .wide,
             omega (arith, z .narrow, z .lent 0 (z .some) .frame .narrow),
             z .few,
-            h,
-            k,
           ),
           (
             (length-table _ _, length-table _ _, length-table _ _, length-table _ _, e₁, e₂),

@@ -9,15 +9,13 @@ ghost use Rattle.lists.specs.Part.{part};
 ghost use Rattle.lists.specs.Bound.{AllAtMost, AllWithin};
 ghost use Rattle.bayer.specs.Lent.{Lent};
 ghost use Rattle.gbtf.specs.Bounds.{mostDifference, mostGradient};
-ghost use Rattle.gbtf.specs.Direction.{total};
-ghost use Rattle.gbtf.specs.Weights.{scale};
+ghost use Rattle.gbtf.specs.Weights.{scale, weightsOf};
 ghost use Rattle.green_rule.specs.Greens.{greenRow};
 ghost use Rattle.green_row.specs.AlongAxis.{differenceIn, gradientIn};
 ghost use Rattle.green_blocks.specs.Block.{greenRowIn};
 use crate::fetch::fetch;
 use bayer::frame::Frame;
 use bayer::parity::starts_green;
-use gbtf::weights::WEIGHTS;
 use green_row::along::differences;
 use green_row::along::gradients;
 use green_row::fuse::fuse;
@@ -46,9 +44,9 @@ fn all_gradients(d: &[i32], s: usize, m: usize, g: &mut [u32])
     gradients(&d[dh_len..], s, &mut g[gh_len..]);
 }
 
-// Green of b rows of readings x, from the differences and gradients of a block.
+// Green of b rows of readings x, by the frame description's smoothing, from the differences and gradients of a block.
 fn fuse_rows(
-    weights: [u8; 5],
+    smoothing: u8,
     x: &[u16],
     w: usize,
     b: usize,
@@ -62,10 +60,10 @@ fn fuse_rows(
     f: &mut [i32],
     out: &mut [u16],
 )
-    requires { ⌜ (odd < 2) × (AllAtMost 4095 (now x)) × (length (now x) ≡ b * w) × (length (now out) ≡ b * w) × (w + 14 ≤ s) × (s ≤ 4111) × (b ≤ 4) × (0 < total weights) × (total weights ≤ 128) ⌝ }
+    requires { ⌜ (odd < 2) × (AllAtMost 4095 (now x)) × (length (now x) ≡ b * w) × (length (now out) ≡ b * w) × (w + 14 ≤ s) × (s ≤ 4111) × (b ≤ 4) ⌝ }
     requires { ⌜ (length (now dh) ≡ b * s + 2 * s) × (length (now dv) ≡ b * s + 8 * s) × (length (now gh) ≡ b * s + 2 * s - 4) × (length (now gv) ≡ b * s + 4 * s) × (length (now t) ≡ 4 * w) × (length (now f) ≡ 4 * w) ⌝ }
     requires { ⌜ (AllWithin mostDifference (now dh)) × (AllWithin mostDifference (now dv)) × (AllAtMost mostGradient (now gh)) × (AllAtMost mostGradient (now gv)) ⌝ }
-    ensures { λ _. ⌜ now (out .exit) ≡ joined (greenRowIn scale weights w s odd (now (x .entry)) (now (dh .entry)) (now (dv .entry)) (now (gh .entry)) (now (gv .entry))) b ⌝ }
+    ensures { λ _. ⌜ now (out .exit) ≡ joined (greenRowIn scale (weightsOf smoothing) w s odd (now (x .entry)) (now (dh .entry)) (now (dv .entry)) (now (gh .entry)) (now (gv .entry))) b ⌝ }
 {
     let mut i = 0;
     while i < b {
@@ -77,7 +75,7 @@ fn fuse_rows(
         let gh_end = o + (3 * s - 4);
         let gv_end = o + 5 * s;
         fuse(
-            weights,
+            smoothing,
             &x[at..end],
             s,
             (odd + i) % 2,
@@ -124,7 +122,7 @@ pub fn green_block(
     let dh_len = m + 2 * s;
     let gh_len = dh_len - 4;
     fuse_rows(
-        WEIGHTS,
+        frame.smoothing,
         &piece[at..end],
         w,
         b,

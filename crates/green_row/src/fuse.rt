@@ -4,8 +4,7 @@ ghost use lib.ListN.{length};
 ghost use Rattle.lists.specs.Table.{table};
 ghost use Rattle.lists.specs.Bound.{AllAtMost, AllWithin};
 ghost use Rattle.gbtf.specs.Bounds.{mostDifference, mostGradient, mostSum};
-ghost use Rattle.gbtf.specs.Direction.{total};
-ghost use Rattle.gbtf.specs.Weights.{scale};
+ghost use Rattle.gbtf.specs.Weights.{scale, weightsOf};
 ghost use Rattle.green_row.specs.Directions.{directionFrom};
 ghost use Rattle.green_row.specs.GreenIn.{fusedBy, greenFrom, greenIn};
 use crate::directions::row_fives;
@@ -14,6 +13,7 @@ use gbtf::direction::Direction;
 use gbtf::fusion::green;
 use gbtf::weights::SCALE;
 use gbtf::weights::total;
+use gbtf::weights::weights_of;
 
 // Direction k of column j, of a row of w readings whose direction sums are t and five-sums f.
 fn direction_at(w: usize, t: &[u32], f: &[i32], k: usize, j: usize) -> Direction
@@ -66,9 +66,9 @@ fn fuse_row(total: u64, x: &[u16], odd: usize, t: &[u32], f: &[i32], out: &mut [
     }
 }
 
-// Green of a row of readings x. t and f are room for its direction sums and five-sums; what they held before does not matter, and what they hold afterwards is not promised.
+// Green of a row of readings x, by the frame description's smoothing. t and f are room for its direction sums and five-sums; what they held before does not matter, and what they hold afterwards is not promised.
 pub fn fuse(
-    weights: [u8; 5],
+    smoothing: u8,
     x: &[u16],
     s: usize,
     odd: usize,
@@ -80,12 +80,13 @@ pub fn fuse(
     f: &mut [i32],
     out: &mut [u16],
 )
-    requires { ⌜ (odd < 2) × (AllAtMost 4095 (now x)) × (length (now out) ≡ length (now x)) × (0 < total weights) × (total weights ≤ 128) ⌝ }
+    requires { ⌜ (odd < 2) × (AllAtMost 4095 (now x)) × (length (now out) ≡ length (now x)) ⌝ }
     requires { ⌜ (length (now x) + 14 ≤ s) × (s < 4112) × (length (now dh) ≡ 3 * s) × (length (now dv) ≡ 9 * s) × (length (now gh) + 4 ≡ 3 * s) × (length (now gv) ≡ 5 * s) ⌝ }
     requires { ⌜ (AllWithin mostDifference (now dh)) × (AllWithin mostDifference (now dv)) × (AllAtMost mostGradient (now gh)) × (AllAtMost mostGradient (now gv)) ⌝ }
     requires { ⌜ (length (now t) ≡ 4 * length (now x)) × (length (now f) ≡ 4 * length (now x)) ⌝ }
-    ensures { λ _. ⌜ now (out .exit) ≡ table (greenIn scale weights s odd (now (x .entry)) (now (dh .entry)) (now (dv .entry)) (now (gh .entry)) (now (gv .entry))) (length (now (out .entry))) ⌝ }
+    ensures { λ _. ⌜ now (out .exit) ≡ table (greenIn scale (weightsOf smoothing) s odd (now (x .entry)) (now (dh .entry)) (now (dv .entry)) (now (gh .entry)) (now (gv .entry))) (length (now (out .entry))) ⌝ }
 {
+    let weights = weights_of(smoothing);
     row_sums(s, gh, gv, x.len(), t);
     row_fives(weights, s, dh, dv, x.len(), f);
     fuse_row(total(weights), x, odd, t, f, out);

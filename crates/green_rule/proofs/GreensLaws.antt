@@ -13,7 +13,7 @@ use Rattle.bayer.specs.declared.frame.Frame.{Frame}
 use Rattle.bayer.specs.Mirror.{mirror}
 use Rattle.bayer.specs.Mosaic.{continued, isGreen}
 use Rattle.bayer.proofs.Near.{Near}
-use Rattle.gbtf.specs.Weights.{scale, evenWeights}
+use Rattle.gbtf.specs.Weights.{scale, weightsOf, total-above0}
 use Rattle.gbtf.specs.GreenAt.{greenAt}
 use Rattle.gbtf.proofs.GreenBound.{greenAt-sharp}
 use Rattle.gbtf.proofs.GreenRange.{greenAt-range}
@@ -32,18 +32,18 @@ module _ (f : Frame) (first : ℕ) (rows : List ℕ) (range : AllAtMost 4095 row
 
   pub greens-range : (i j : ℤ) → greens f first rows i j ≤ 65520
   unfolding greens
-  greens-range = greenAt-range (continued f first rows) reading-range evenWeights scale
+  greens-range = greenAt-range (continued f first rows) reading-range (weightsOf (f .smoothing)) scale
 
   pub greens-near : (i j : ℤ) → Within (natural (greens f first rows i j)) (exactGreens f first rows i j) greenThousandths 1000
   unfolding greens exactGreens
-  greens-near i j = within-wider greenThousandths 1000 (lit≤ tt) (lit≤ tt) (greenAt-sharp (continued f first rows) reading-range evenWeights (lit≤ tt) scale (lit≤ tt) i j)
+  greens-near i j = within-wider greenThousandths 1000 (lit≤ tt) (lit≤ tt) (greenAt-sharp (continued f first rows) reading-range (weightsOf (f .smoothing)) (total-above0 (f .smoothing)) scale (lit≤ tt) i j)
 
 -- rows from `first` on in xs, and from `other` on in ys, that continue to the same readings at most 7 rows away from row i give the same greens at most one row away
 module _ (f : Frame) (first other : ℕ) (xs ys : List ℕ) (i : ℤ) (agree : (r : ℤ) → Near 7 i r → continued f first xs .reading r ≡ continued f other ys .reading r) (r : ℤ) (h : Near 1 i r) (j : ℤ) where
   pub greens-local : greens f first xs r j ≡ greens f other ys r j
   unfolding greens
-  greens-local = greenAt-same _ _ _ i agree evenWeights r h j scale
+  greens-local = greenAt-same _ _ _ i agree (weightsOf (f .smoothing)) r h j scale
 
   pub exactGreens-local : exactGreens f first xs r j ≡ exactGreens f other ys r j
   unfolding exactGreens
-  exactGreens-local = exactGreenAt-same _ _ _ i agree evenWeights r h j (lit≤ tt)
+  exactGreens-local = exactGreenAt-same _ _ _ i agree (weightsOf (f .smoothing)) r h j (total-above0 (f .smoothing))

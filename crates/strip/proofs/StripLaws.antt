@@ -13,7 +13,7 @@ use Rattle.lists.proofs.PartLaws.{part-inside, getD-part}
 use Rattle.bayer.specs.Mirror.{mirror}
 use Rattle.bayer.specs.declared.frame.Frame.{Frame}
 use Rattle.bayer.specs.Piece.{pieceStart, pieceEnd, pieceRows, pieceOf}
-use Rattle.bayer.specs.Condition.{frameCases, FrameFits, rowsCases}
+use Rattle.bayer.specs.Condition.{frameCases, FrameFits, smoothingCases, rowsCases}
 use Rattle.bayer.specs.Lent.{Lent}
 use Rattle.bayer.proofs.RefusalLaws.{off, off-append}
 use Rattle.bayer.proofs.ConditionLaws.{frame-fits, rows-fit, same-number, planes-fit, readings-fit}
@@ -35,7 +35,8 @@ pub fits : (c : Asked) (red green blue : ℕ) → stripNumber c red green blue �
 unfolding stripNumber
 fits c red green blue e =
     let o = off-append (frameCases (c .frame)) _ e in
-    let p = off-append (rowsCases (c .frame) (c .first) (c .count)) _ (o .1) in
+    let s = off-append (smoothingCases (c .frame .smoothing)) _ (o .1) in
+    let p = off-append (rowsCases (c .frame) (c .first) (c .count)) _ (s .1) in
     let q = off-append (lengthCases c red green blue) _ (p .1) in
     let rows = rows-fit (c .frame) (c .first) (c .count) (p .0) in
     let lengths = off (lengthCases c red green blue) (q .0) in

@@ -12,9 +12,9 @@ use Rattle.bayer.specs.declared.colour.Colour.{Colour}
 use Rattle.bayer.specs.declared.frame.Frame.{Frame}
 use Rattle.bayer.specs.Planes.{Planes}
 use Rattle.bayer.specs.Piece.{pieceRows}
-use Rattle.bayer.specs.Refusal.{firstOf}
-use Rattle.bayer.specs.Condition.{frameCases, rowsCases, planesMisfit, rangeCases}
-use Rattle.bayer.proofs.RefusalLaws.{on, skip}
+use Rattle.bayer.specs.Refusal.{Case, firstOf}
+use Rattle.bayer.specs.Condition.{frameCases, smoothingCases, rowsCases, planesMisfit, rangeCases}
+use Rattle.bayer.proofs.RefusalLaws.{on, skip, off-append}
 use Rattle.bayer.proofs.ConditionLaws.{frame-fits, rows-pass, planes-pass}
 use Rattle.demosaic.specs.Sample.{framePlane}
 use Rattle.strip.specs.Strip.{asked, lengthCases, stripNumber, Promise}
@@ -38,11 +38,15 @@ module _ (f : Frame) (readings : List ℕ) (long : length readings ≡ f .width 
   planes : planesMisfit (H * f .width) red green blue ≡ false
   planes = planes-pass (H * f .width) red green blue (r ∙ turned) (g ∙ turned) (b ∙ turned)
 
-  pub whole-number : stripNumber (asked f 0 H readings) red green blue ≡ firstOf (frameCases f ++ rangeCases readings)
+  -- of what is named of the frame
+  abbrev named : List Case
+  named = frameCases f ++ smoothingCases (f .smoothing)
+
+  pub whole-number : stripNumber (asked f 0 H readings) red green blue ≡ firstOf (frameCases f ++ (smoothingCases (f .smoothing) ++ rangeCases readings))
   unfolding stripNumber
   whole-number =
-      skip (frameCases f) (rowsCases f 0 H) (lengthCases (asked f 0 H readings) red green blue ++ rangeCases readings) rows
-      ∙ skip (frameCases f) (lengthCases (asked f 0 H readings) red green blue) (rangeCases readings) (λ e. on (lengthCases (asked f 0 H readings) red green blue) (piece, (planes, tt)))
+      skip named (rowsCases f 0 H) (lengthCases (asked f 0 H readings) red green blue ++ rangeCases readings) (λ e. rows (off-append (frameCases f) (smoothingCases (f .smoothing)) e .0))
+      ∙ skip named (lengthCases (asked f 0 H readings) red green blue) (rangeCases readings) (λ e. on (lengthCases (asked f 0 H readings) red green blue) (piece, (planes, tt)))
 
 pub whole-plane : (f : Frame) (readings : List ℕ) {lent after : Planes} {answer : ℕ} → Promise (asked f 0 (f .height) readings) lent answer after → answer ≡ 0 → (k : Colour) → after k ≡ framePlane f readings k
 whole-plane f readings p e k = accepted-plane p e k

@@ -27,7 +27,7 @@ numberOf c = stripNumber (c .asked) (c .size Red) (c .size Green) (c .size Blue)
 abbrev pub Accepted : StripCall → Type 0
 Accepted c = numberOf c ≡ 0
 
--- of an accepted call: it names the frame f, brings the rows of its readings, and is lent its own rows of each plane
+-- of an accepted call: it names the frame f, and so f's smoothing too, brings the rows of its readings, and is lent its own rows of each plane
 pub record OfFrame (f : Frame) (readings : List ℕ) (c : StripCall) : Type 0 where
   pub frame : c .asked .frame ≡ f
   pub piece : c .asked .piece ≡ pieceOf (f .width) (f .height) (c .asked .first) (c .asked .count) readings
@@ -52,7 +52,7 @@ abbrev pub CoveredBy : List StripCall → (i : ℕ) → Type 0
 CoveredBy [] i = ⊥
 CoveredBy (c ∷ l) i = (Accepted c × (c .asked .first ≤ i) × (i < c .asked .first + c .asked .count)) ⊎ CoveredBy l i
 
--- in every covered row the samples of plane k are within so many hundredths of the exact reconstruction of the frame
+-- in every covered row the samples of plane k are within so many hundredths of the exact reconstruction of the frame, by f's smoothing
 abbrev pub NearExact : Frame → (readings : List ℕ) → List StripCall → (q : Planes) (k : Colour) (hundredths : ℕ) → Type 0
 NearExact f readings l q k hundredths = (i j : ℕ) → CoveredBy l i → j < f .width → Within (natural (getD (q k) (i * f .width + j) 0)) (exactSample f 0 readings k i j) hundredths 100
 

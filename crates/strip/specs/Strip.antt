@@ -11,7 +11,7 @@ use Rattle.bayer.specs.declared.frame.Frame.{Frame}
 use Rattle.bayer.specs.Planes.{Planes}
 use Rattle.bayer.specs.Piece.{pieceStart, pieceRows}
 use Rattle.bayer.specs.Refusal.{Case, _when_, wrongPieceLength, wrongPlaneLength, firstOf, heldAfter}
-use Rattle.bayer.specs.Condition.{frameCases, rowsCases, planesMisfit, rangeCases}
+use Rattle.bayer.specs.Condition.{frameCases, smoothingCases, rowsCases, planesMisfit, rangeCases}
 use Rattle.demosaic.specs.Sample.{planeRows}
 
 -- what a call asks for: `count` rows of a frame from row `first` on, and the piece of the mosaic that it is lent
@@ -31,9 +31,9 @@ lengthCases c red green blue =
     ∷ (wrongPlaneLength when planesMisfit (c .count * c .frame .width) red green blue)
     ∷ []
 
--- the number of the refusal, the lowest that holds: 1, 2; 3; 4, 5; 6. 0: accepted
+-- the number of the refusal, the first that holds: 1, 2; 10; 3; 4, 5; 6. 0: accepted
 unfoldable pub stripNumber : Asked → (red green blue : ℕ) → ℕ
-stripNumber c red green blue = firstOf (frameCases (c .frame) ++ (rowsCases (c .frame) (c .first) (c .count) ++ (lengthCases c red green blue ++ rangeCases (c .piece))))
+stripNumber c red green blue = firstOf (frameCases (c .frame) ++ (smoothingCases (c .frame .smoothing) ++ (rowsCases (c .frame) (c .first) (c .count) ++ (lengthCases c red green blue ++ rangeCases (c .piece)))))
 
 -- the samples of plane k that the rules give for its rows, from the piece
 abbrev pub stripPlane : Asked → (k : Colour) → List ℕ

@@ -1,16 +1,37 @@
 ghost use mathlib.Core.Path.{_≡_};
 ghost use mathlib.Core.List.{_++_};
-ghost use Rattle.bayer.specs.Condition.{frameCases, rowsCases, rangeCases};
+ghost use Prim.Native.Nat.{_≤_};
+ghost use Rattle.bayer.specs.Condition.{frameCases, FrameFits, smoothingCases, rowsCases, rangeCases};
 ghost use Rattle.bayer.specs.Refusal.{firstOf};
 ghost use Rattle.strip.specs.Strip.{asked, lengthCases, stripNumber};
+use bayer::check::frame_check;
 use bayer::check::planes_misfit;
-use bayer::check::rows_check;
+use bayer::check::rows_outside;
 use bayer::frame::Frame;
 use bayer::piece::piece_rows;
 use bayer::refusal::READING_OUT_OF_RANGE;
+use bayer::refusal::ROWS_OUTSIDE_FRAME;
+use bayer::refusal::UNKNOWN_SMOOTHING;
 use bayer::refusal::WRONG_PIECE_LENGTH;
 use bayer::refusal::WRONG_PLANE_LENGTH;
 use lists::above::any_above;
+
+// Refusals 1, 2, 10 and 3: of what a call names.
+fn named_check(frame: Frame, a: usize, n: usize) -> u32
+    ensures { λ r. ⌜ r ≡ firstOf (frameCases frame ++ (smoothingCases (frame .smoothing) ++ rowsCases frame a n)) ⌝ }
+{
+    let number = frame_check(frame);
+    if number != 0 {
+        return number;
+    }
+    if 1 < frame.smoothing {
+        return UNKNOWN_SMOOTHING;
+    }
+    if rows_outside(frame.height, a, n) {
+        return ROWS_OUTSIDE_FRAME;
+    }
+    0
+}
 
 // Refusals 4, 5 and 6: of what a call is lent. 6 comes last, as it reads the piece.
 fn lent_check(
@@ -22,7 +43,7 @@ fn lent_check(
     green: usize,
     blue: usize,
 ) -> u32
-    requires { ⌜ firstOf (frameCases frame ++ rowsCases frame a n) ≡ 0 ⌝ }
+    requires { ⌜ (FrameFits frame) × (n ≤ frame .height) ⌝ }
     ensures { λ r. ⌜ r ≡ firstOf (lengthCases (asked frame a n (now (piece .entry))) red green blue ++ rangeCases (now (piece .entry))) ⌝ }
 {
     let w = frame.width;
@@ -51,7 +72,7 @@ pub fn strip_check(
 ) -> u32
     ensures { λ r. ⌜ r ≡ stripNumber (asked frame a n (now (piece .entry))) red green blue ⌝ }
 {
-    let number = rows_check(frame, a, n);
+    let number = named_check(frame, a, n);
     if number != 0 {
         return number;
     }

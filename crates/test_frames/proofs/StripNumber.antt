@@ -27,5 +27,5 @@ module _ (f : Frame) (seed a n : ℕ) where
   never-over-range red green blue =
       never 6 (omega arith) _ (
         λ e. absurd (omega arith),
-        (λ e. absurd (omega arith), (λ e. absurd (omega arith), (λ e. absurd (omega arith), (λ e. absurd (omega arith), (λ e. in-range, tt))))),
+        (λ e. absurd (omega arith), (λ e. absurd (omega arith), (λ e. absurd (omega arith), (λ e. absurd (omega arith), (λ e. absurd (omega arith), (λ e. in-range, tt)))))),
       )

@@ -1,15 +1,15 @@
 -- Laws of `floorDiv` and `clamp`. The floor f of z / d is the only one with f d ≤ z < (f + 1) d. Assumes nothing.
 use mathlib.Core.Path.{_≡_, refl, sym, _∙_, ap}
 use Prim.Native.Nat.{ℕ, suc, _+_, _*_, _-_, _/_, _≤_, _<_}
-use native.Mathlib.Nat.{div-add-mod', mod-lt, mul-le-mul-right, div-le-of-le-mul}
+use native.Mathlib.Nat.{div-add-mod', mod-lt, mul-pos, mul-le-mul-left, mul-le-mul-right, div-le-of-le-mul}
 use native.Mathlib.Decide.{decLe}
 use native.Mathlib.Omega.{arith}
-use lib.IntN.{ℤ, pos, negsuc, natAbs, _+ℤ_, _-ℤ_}
+use lib.IntN.{ℤ, pos, negsuc, natAbs, _+ℤ_, _-ℤ_, _*ℤ_}
 use lib.Signed.{shrZ}
 use Rattle.whole.specs.Parts.{up, down}
 use Rattle.whole.specs.Floor.{floorDiv}
 use Rattle.whole.specs.Clamp.{clamp}
-use Rattle.whole.proofs.Pairs.{anyₚ, natₚ, _+ₚ_, _-ₚ_, eq-by, eq-of, abs-by, +ℤ-up}
+use Rattle.whole.proofs.Pairs.{anyₚ, natₚ, _+ₚ_, _-ₚ_, _*ₚ_, eq-by, eq-of, abs-by, +ℤ-up}
 use Rattle.whole.proofs.Magnitudes.{up-le, down-le}
 
 pub floor-low : (z : ℤ) (d : ℕ) → 0 < d → up (floorDiv z d) * d + down z ≤ up z + down (floorDiv z d) * d
@@ -41,6 +41,12 @@ floor-lift x k d h =
     let f = floorDiv x d in
     let e = ap (λ n. n * d) (+ℤ-up f (pos k)) in
     sym (floor-unique (x +ℤ pos (k * d)) (f +ℤ pos k) d h (omega (arith, e, +ℤ-up x (pos (k * d)), floor-low x d h)) (omega (arith, e, +ℤ-up x (pos (k * d)), floor-high x d h)))
+
+-- a factor of both leaves it
+pub floor-times : (k : ℕ) (x : ℤ) (d : ℕ) → 0 < k → 0 < d → floorDiv (pos k *ℤ x) (k * d) ≡ floorDiv x d
+floor-times k x d hk hd =
+    let p = eq-of (anyₚ (pos k *ℤ x)) (k *ₚ anyₚ x) refl in
+    sym (floor-unique (pos k *ℤ x) (floorDiv x d) (k * d) (mul-pos hk hd) (omega (arith, p, mul-le-mul-left k (floor-low x d hd))) (omega (arith, p, mul-le-mul-left k (floor-high x d hd))))
 
 -- how code divides, for a quotient within k: lifted by k divisors, x is a natural
 module _ (x : ℤ) (d k : ℕ) (pos-d : 0 < d) (h : natAbs x ≤ k * d) where

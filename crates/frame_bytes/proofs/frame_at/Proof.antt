@@ -3,7 +3,7 @@ use Prim.Native.Nat.{_+_}
 use mathlib.Core.Path.{ap₂, _∙_}
 use lib.ListN.{getD}
 use borrow.Author.Needs.{needs}
-use Rattle.bayer.specs.Frame.{frame}
+use Rattle.bayer.specs.Frame.{smoothed}
 use Rattle.frame_bytes.proofs.frame_at.Statement.{statement}
 use Rattle.frame_bytes.proofs.frame_at.Tie as tie
 
@@ -25,17 +25,17 @@ cast-h c = search needs
 add-layout : tie.Need-add-layout
 add-layout c = search needs
 
-shared-slice-read-new : tie.Need-shared-slice-read-new
-shared-slice-read-new c = search needs
+shared-slice-read-smoothed : tie.Need-shared-slice-read-smoothed
+shared-slice-read-smoothed c = search needs
 
-new-requires : tie.Need-new-requires
-new-requires c κs = search needs
+smoothed-requires : tie.Need-smoothed-requires
+smoothed-requires c κs = search needs
 
 returns : tie.Need-returns
 returns c =
     let p = c .before .before .before in
     let a = p .before .before .args in
-    c .new .ensures ∙ ap₂ (λ w h. frame w h (getD (a .bytes .now) (a .at + 4) 0)) (p .two-bytes .ensures) (c .before .before .two-bytes2 .ensures)
+    c .smoothed .ensures ∙ ap₂ (λ w h. smoothed w h (getD (a .bytes .now) (a .at + 4) 0) 0) (p .two-bytes .ensures) (c .before .before .two-bytes2 .ensures)
 
 pub frame-at-spec : {M : Type 1} → statement M
 frame-at-spec =
@@ -47,6 +47,6 @@ frame-at-spec =
     two-bytes-requires-2
     cast-h
     add-layout
-    shared-slice-read-new
-    new-requires
+    shared-slice-read-smoothed
+    smoothed-requires
     returns)

@@ -12,17 +12,17 @@ use Rattle.lists.proofs.JoinedLaws.{part-within, Handed, joined-none, joined-tu
 use Rattle.lists.proofs.PartLaws.{part-length, row-is}
 use Rattle.lists.proofs.BoundLaws.{all-part}
 use Rattle.gbtf.specs.Bounds.{mostDifference, mostGradient}
-use Rattle.gbtf.specs.Weights.{scale}
+use Rattle.gbtf.specs.Weights.{scale, weightsOf}
 use Rattle.green_row.specs.GreenIn.{greenIn}
 use Rattle.green_blocks.specs.Block.{greenRowIn}
 use Rattle.green_blocks.proofs.block.fuse_rows.Statement.{statement}
 use Rattle.green_blocks.proofs.block.fuse_rows.Tie as tie
 
-abbrev rows : (ws x : List ℕ) (w s odd : ℕ) (dh dv : List ℤ) (gh gv : List ℕ) (i : ℕ) → List ℕ
-rows ws x w s odd dh dv gh gv = greenRowIn scale ws w s odd x dh dv gh gv
+abbrev rows : (smoothing : ℕ) (x : List ℕ) (w s odd : ℕ) (dh dv : List ℤ) (gh gv : List ℕ) (i : ℕ) → List ℕ
+rows smoothing x w s odd dh dv gh gv = greenRowIn scale (weightsOf smoothing) w s odd x dh dv gh gv
 
-row-length : (ws x : List ℕ) (w s odd : ℕ) (dh dv : List ℤ) (gh gv : List ℕ) (i : ℕ) → length (rows ws x w s odd dh dv gh gv i) ≡ w
-row-length ws x w s odd dh dv gh gv i = length-table _ w
+row-length : (smoothing : ℕ) (x : List ℕ) (w s odd : ℕ) (dh dv : List ℤ) (gh gv : List ℕ) (i : ℕ) → length (rows smoothing x w s odd dh dv gh gv i) ≡ w
+row-length smoothing x w s odd dh dv gh gv i = length-table _ w
 
 -- the gradients along the rows lack four at the end
 short : (n m s w : ℕ) → w + 14 ≤ s → n + s ≤ m → n + (3 * s - 4) ≤ m + 2 * s - 4
@@ -32,21 +32,21 @@ three : (s w : ℕ) → w + 14 ≤ s → 3 * s - 4 + 4 ≡ 3 * s
 three s w h = omega arith
 
 -- what row i is handed
-row-same : (ws x : List ℕ) (dh dv : List ℤ) (gh gv : List ℕ) (w s odd i : ℕ) {n o : ℕ} → n ≡ w → o ≡ (odd + i) % 2
-    → table (greenIn scale ws s o (take (i * w + w - i * w) (drop (i * w) x))
+row-same : (smoothing : ℕ) (x : List ℕ) (dh dv : List ℤ) (gh gv : List ℕ) (w s odd i : ℕ) {n o : ℕ} → n ≡ w → o ≡ (odd + i) % 2
+    → table (greenIn scale (weightsOf smoothing) s o (take (i * w + w - i * w) (drop (i * w) x))
     (take (i * s + 3 * s - i * s) (drop (i * s) dh)) (take (i * s + 9 * s - i * s) (drop (i * s) dv)) (take (i * s + (3 * s - 4) - i * s) (drop (i * s) gh)) (take (i * s + 5 * s - i * s) (drop (i * s) gv))) n
-    ≡ rows ws x w s odd dh dv gh gv i
-row-same ws x dh dv gh gv w s odd i e h = rw (e, h, row-is w i x refl, add-sub-cancel-left (i * s) (3 * s), add-sub-cancel-left (i * s) (9 * s), add-sub-cancel-left (i * s) (3 * s - 4), add-sub-cancel-left (i * s) (5 * s))
+    ≡ rows smoothing x w s odd dh dv gh gv i
+row-same smoothing x dh dv gh gv w s odd i e h = rw (e, h, row-is w i x refl, add-sub-cancel-left (i * s) (3 * s), add-sub-cancel-left (i * s) (9 * s), add-sub-cancel-left (i * s) (3 * s - 4), add-sub-cancel-left (i * s) (5 * s))
 
 abbrev Inv-loop : tie.InvT-loop
-Inv-loop ws x w b s odd dh dv gh gv t₀ f₀ out₀ i₀ t f out i =
-    (i ≤ b) × (Handed (rows ws x w s odd dh dv gh gv) w (row-length ws x w s odd dh dv gh gv) i out₀ out) × (length t ≡ length t₀) × (length f ≡ length f₀)
+Inv-loop smoothing x w b s odd dh dv gh gv t₀ f₀ out₀ i₀ t f out i =
+    (i ≤ b) × (Handed (rows smoothing x w s odd dh dv gh gv) w (row-length smoothing x w s odd dh dv gh gv) i out₀ out) × (length t ≡ length t₀) × (length f ≡ length f₀)
 
 abbrev μ-loop : tie.MeasureT-loop
-μ-loop ws x w b s odd dh dv gh gv t₀ f₀ out₀ i₀ t f out i = b - i
+μ-loop smoothing x w b s odd dh dv gh gv t₀ f₀ out₀ i₀ t f out i = b - i
 
 loop-holds : tie.Need-loop-holds Inv-loop μ-loop
-loop-holds c = (omega arith, (joined-none _ _ (row-length _ _ _ _ _ _ _ _ _) _, refl), refl, refl)
+loop-holds c = (omega arith, (joined-none _ _ (row-length (c .before .before .before .before .before .args .smoothing) _ _ _ _ _ _ _ _) _, refl), refl, refl)
 
 -- the entry, and the loop's test
 abbrev start : tie.In-loop Inv-loop μ-loop → tie.Start Inv-loop μ-loop
@@ -187,7 +187,7 @@ fuse-requires c κs =
     let l₃ = part-length (l .i * a .s) (3 * a .s - 4) (a .gh .now) (rw (q .pre .1 .0 .2) (short (l .i * a .s) (a .b * a .s) (a .s) (a .w) (q .pre .0 .4) (inside k .1))) in
     let l₄ = part-length (l .i * a .s) (5 * a .s) (a .gv .now) (omega (arith, inside k .1)) in
     rw (lx, lo, l₁, l₂, l₃, l₄) (
-      (omega arith, all-part (λ n. n ≤ 4095) 0 (omega arith) (l .i * a .w) (l .i * a .w + a .w - l .i * a .w) (a .x .now) (q .pre .0 .1), refl, q .pre .0 .7, q .pre .0 .8),
+      (omega arith, all-part (λ n. n ≤ 4095) 0 (omega arith) (l .i * a .w) (l .i * a .w + a .w - l .i * a .w) (a .x .now) (q .pre .0 .1), refl),
       (
         (q .pre .0 .4, omega arith, refl, refl, three (a .s) (a .w) (q .pre .0 .4), refl),
         (
@@ -217,8 +217,8 @@ loop-again c =
     let a = q .args in
     let z = r .fuse .kept .1 .1 .1 .1 .1 .1 .1 .1 in (
       omega arith,
-      joined-turn _ _ (row-length (a .weights) (a .x .now) (a .w) (a .s) (a .odd) (a .dh .now) (a .dv .now) (a .gh .now) (a .gv .now)) (l .i) (a .b) (a .out .now) (k .loop-test .taken) (q .pre .0 .3) (l .inv .1)
-          (r .fuse .ensures ∙ row-same (a .weights) (a .x .now) (a .dh .now) (a .dv .now) (a .gh .now) (a .gv .now) (a .w) (a .s) (a .odd) (l .i) (part-length (l .i * a .w) (a .w) (l .out) (omega (arith, inside k .0))) (omega arith)),
+      joined-turn _ _ (row-length (a .smoothing) (a .x .now) (a .w) (a .s) (a .odd) (a .dh .now) (a .dv .now) (a .gh .now) (a .gv .now)) (l .i) (a .b) (a .out .now) (k .loop-test .taken) (q .pre .0 .3) (l .inv .1)
+          (r .fuse .ensures ∙ row-same (a .smoothing) (a .x .now) (a .dh .now) (a .dv .now) (a .gh .now) (a .gv .now) (a .w) (a .s) (a .odd) (l .i) (part-length (l .i * a .w) (a .w) (l .out) (omega (arith, inside k .0))) (omega arith)),
       z .0 ∙ l .inv .2,
       z .1 .0 ∙ l .inv .3,
     )
@@ -237,7 +237,7 @@ returns c =
     let l = c .before .loop in
     let q = c .before .before .before .before .before .before .before in
     let a = q .args in
-    l .inv .1 .0 ∙ joined-done _ _ (row-length (a .weights) (a .x .now) (a .w) (a .s) (a .odd) (a .dh .now) (a .dv .now) (a .gh .now) (a .gv .now)) (l .i) (a .b) _ (l .inv .0) (c .loop-test .left) (q .pre .0 .3)
+    l .inv .1 .0 ∙ joined-done _ _ (row-length (a .smoothing) (a .x .now) (a .w) (a .s) (a .odd) (a .dh .now) (a .dv .now) (a .gh .now) (a .gv .now)) (l .i) (a .b) _ (l .inv .0) (c .loop-test .left) (q .pre .0 .3)
 
 pub fuse-rows-spec : {M : Type 1} → statement M
 fuse-rows-spec =

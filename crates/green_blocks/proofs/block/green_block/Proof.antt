@@ -2,10 +2,9 @@
 use Prim.Native.Nat.{_+_, _-_, _*_, _≤_}
 use native.Mathlib.Nat.{mul-le-mul}
 use native.Mathlib.Omega.{arith}
-use lib.Dec.{lit≤}
 use lib.ListN.{length}
 use Rattle.bayer.proofs.ParityLaws.{starts-below}
-use Rattle.gbtf.specs.Weights.{scale, evenWeights}
+use Rattle.gbtf.specs.Weights.{scale, weightsOf}
 use Rattle.green_rule.specs.Greens.{greens}
 use Rattle.green_blocks.proofs.GreenBlock.{both-within, BlockBuffers, gradients-length, block-start, block-end, block-fused, ready}
 use Rattle.green_blocks.proofs.block.green_block.Statement.{statement}
@@ -173,7 +172,7 @@ fuse-rows-requires : tie.Need-fuse-rows-requires
 fuse-rows-requires c κs =
     let k = filled (c .before .before .before .before) in
     let h = start k .pre .1 .0 in
-    ready (buffers k) (start k .pre .0 .3) evenWeights (lit≤ tt) (lit≤ tt) (start k .args .out .now) (start k .args .t .now) (start k .args .f .now) (h .5) (h .3) (h .4)
+    ready (buffers k) (start k .pre .0 .3) (start k .args .out .now) (start k .args .t .now) (start k .args .f .now) (h .5) (h .3) (h .4)
 
 same-length : tie.Need-same-length
 same-length c = omega arith
@@ -197,7 +196,8 @@ returns : tie.Need-returns
 unfolding greens
 returns c =
     let r = c .before .before .before .before .before in
-    block-fused (buffers (filled (r .before .before .before .before .before))) scale evenWeights (r .fuse-rows .ensures)
+    let k = filled (r .before .before .before .before .before) in
+    block-fused (buffers k) scale (weightsOf (start k .args .frame .smoothing)) (r .fuse-rows .ensures)
 
 pub green-block-spec : {M : Type 1} → statement M
 green-block-spec =

@@ -10,23 +10,14 @@ use borrow.Author.Tests.{eq-eqb, ne-eqb}
 use Rattle.lists.specs.Bound.{anyAbove}
 use Rattle.bayer.specs.Piece.{pieceRows}
 use Rattle.bayer.specs.Refusal.{firstOf}
-use Rattle.bayer.specs.Condition.{frameCases, rowsCases, planesMisfit, rangeCases}
-use Rattle.bayer.proofs.RefusalLaws.{off-append}
-use Rattle.bayer.proofs.ConditionLaws.{frame-fits, rows-fit}
+use Rattle.bayer.specs.Condition.{planesMisfit, rangeCases}
 use Rattle.strip.specs.Strip.{asked, lengthCases}
 use Rattle.strip.proofs.check.lent_check.Statement.{statement}
 use Rattle.strip.proofs.check.lent_check.Tie as tie
 
 -- so many rows are a product that fits
 small : (s : tie.Start) (m : ℕ) → m ≤ s .args .frame .height → m * s .args .frame .width ≤ 4096 * 4096
-small s m h =
-    let f = s .args .frame in
-    let z = frame-fits f (off-append (frameCases f) (rowsCases f (s .args .a) (s .args .n)) (s .pre) .0) in
-    let few : m ≤ 4096 = omega (arith, z .low) in
-    mul-le-mul few (z .narrow)
-
-count : (s : tie.Start) → s .args .n ≤ s .args .frame .height
-count s = let f = s .args .frame in omega (arith, rows-fit f (s .args .a) (s .args .n) (off-append (frameCases f) (rowsCases f (s .args .a) (s .args .n)) (s .pre) .1))
+small s m h = let few : m ≤ 4096 = omega (arith, s .pre .0 .low) in mul-le-mul few (s .pre .0 .narrow)
 
 piece-rows-requires : tie.Need-piece-rows-requires
 piece-rows-requires c κs = search needs
@@ -43,7 +34,7 @@ unfolding firstOf
 returns c = rw (← wanted (c .before), ne-eqb _ _ (c .if1 .taken))
 
 mul-planes-misfit : tie.Need-mul-planes-misfit
-mul-planes-misfit c = let s = c .before .before .before in omega (arith, small s (s .args .n) (count s))
+mul-planes-misfit c = let s = c .before .before .before in omega (arith, small s (s .args .n) (s .pre .1))
 
 -- the piece has its length: the planes and the readings decide
 fits : (c : tie.Else1) → let a = c .before .before .before .args in

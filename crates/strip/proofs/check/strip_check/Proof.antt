@@ -1,36 +1,43 @@
 -- `strip::check::strip_check` meets its contract: what is named decides, and where it is passed what is lent. Assumes nothing.
-use mathlib.Core.Path.{_≡_, sym, _∙_}
-use mathlib.Core.List.{_++_}
+use Prim.Native.Nat.{ℕ}
+use mathlib.Core.Path.{_≡_, refl, sym, ap, _∙_}
+use mathlib.Core.List.{List, _++_}
+use native.Mathlib.Omega.{arith}
 use borrow.Author.Needs.{needs}
-use Rattle.bayer.specs.Condition.{frameCases, rowsCases}
-use Rattle.bayer.specs.Refusal.{firstOf}
-use Rattle.bayer.proofs.RefusalLaws.{later, sooner}
+use Rattle.bayer.specs.Condition.{frameCases, smoothingCases, rowsCases}
+use Rattle.bayer.specs.Refusal.{Case, firstOf}
+use Rattle.bayer.proofs.RefusalLaws.{later, sooner, off-append}
+use Rattle.bayer.proofs.ConditionLaws.{frame-fits, rows-fit}
 use Rattle.strip.specs.Strip.{stripNumber}
 use Rattle.strip.proofs.check.strip_check.Statement.{statement}
 use Rattle.strip.proofs.check.strip_check.Tie as tie
 
-rows-check-requires : tie.Need-rows-check-requires
-rows-check-requires c κs = search needs
+abbrev named : tie.Start → List Case
+named s = let f = s .args .frame in frameCases f ++ (smoothingCases (f .smoothing) ++ rowsCases f (s .args .a) (s .args .n))
+
+named-check-requires : tie.Need-named-check-requires
+named-check-requires c κs = search needs
 
 returns : tie.Need-returns
 unfolding stripNumber
 returns c =
-    let e = c .before .rows-check .ensures in
-    let a = c .before .before .before .args in
-    e ∙ sym (sooner (frameCases (a .frame) ++ rowsCases (a .frame) (a .a) (a .n)) _ (λ z. c .if1 .taken (e ∙ z)))
+    let e = c .before .named-check .ensures in
+    e ∙ sym (sooner (named (c .before .before .before)) _ (λ z. c .if1 .taken (e ∙ z)))
 
 -- what is named is passed
-zero : (c : tie.Else1) → let a = c .before .before .before .args in firstOf (frameCases (a .frame) ++ rowsCases (a .frame) (a .a) (a .n)) ≡ 0
-zero c = sym (c .before .rows-check .ensures) ∙ c .if1 .left
+zero : (c : tie.Else1) → firstOf (named (c .before .before .before)) ≡ 0
+zero c = sym (c .before .named-check .ensures) ∙ c .if1 .left
 
 lent-check-requires : tie.Need-lent-check-requires
-lent-check-requires c κs = zero c
+lent-check-requires c κs =
+    let a = c .before .before .before .args in
+    let o = off-append (frameCases (a .frame)) _ (zero c) in
+    let r = rows-fit (a .frame) (a .a) (a .n) (off-append (smoothingCases (a .frame .smoothing)) _ (o .1) .1) in
+    (frame-fits (a .frame) (o .0), omega (arith, r .1))
 
 returns-2 : tie.Need-returns-2
 unfolding stripNumber
-returns-2 c =
-    let a = c .before .before .before .before .args in
-    c .lent-check .ensures ∙ sym (later (frameCases (a .frame) ++ rowsCases (a .frame) (a .a) (a .n)) _ (zero (c .before)))
+returns-2 c = c .lent-check .ensures ∙ sym (later (named (c .before .before .before .before)) _ (zero (c .before)))
 
 pub strip-check-spec : {M : Type 1} → statement M
-strip-check-spec = tie.close (tie.spec rows-check-requires returns lent-check-requires returns-2)
+strip-check-spec = tie.close (tie.spec named-check-requires returns lent-check-requires returns-2)

@@ -1,0 +1,40 @@
+-- `strip::check::named_check` meets its contract, by its tests in their order. Assumes nothing.
+use mathlib.Core.Path.{_≡_, sym, _∙_}
+use mathlib.Core.Bool.{cond}
+use mathlib.Core.List.{_++_}
+use borrow.Author.Needs.{needs}
+use borrow.Author.Tests.{lt-ltb, le-ltb}
+use lib.Dec.{ltb}
+use Rattle.bayer.specs.Condition.{frameCases, smoothingCases, rowsOutside, rowsCases}
+use Rattle.bayer.specs.Refusal.{firstOf}
+use Rattle.bayer.proofs.RefusalLaws.{later, sooner}
+use Rattle.strip.proofs.check.named_check.Statement.{statement}
+use Rattle.strip.proofs.check.named_check.Tie as tie
+
+frame-check-requires : tie.Need-frame-check-requires
+frame-check-requires c κs = search needs
+
+returns : tie.Need-returns
+returns c = c .before .frame-check .ensures ∙ sym (sooner (frameCases (c .before .before .args .frame)) _ (λ e. c .if1 .taken (c .before .frame-check .ensures ∙ e)))
+
+-- the frame is passed: its smoothing and the rows decide
+passed : (c : tie.Else1) → let a = c .before .before .args in
+    firstOf (frameCases (a .frame) ++ (smoothingCases (a .frame .smoothing) ++ rowsCases (a .frame) (a .a) (a .n)))
+    ≡ cond (ltb 1 (a .frame .smoothing)) 10 (cond (rowsOutside (a .frame .height) (a .a) (a .n)) 3 0)
+unfolding firstOf
+passed c = let a = c .before .before .args in later (frameCases (a .frame)) (smoothingCases (a .frame .smoothing) ++ rowsCases (a .frame) (a .a) (a .n)) (sym (c .before .frame-check .ensures) ∙ c .if1 .left)
+
+returns-2 : tie.Need-returns-2
+returns-2 c = rw (passed (c .before .before), lt-ltb _ _ (c .if2 .taken))
+
+rows-outside-requires : tie.Need-rows-outside-requires
+rows-outside-requires c κs = search needs
+
+returns-3 : tie.Need-returns-3
+returns-3 c = let e = c .before .before in rw (passed (e .before .before), le-ltb _ _ (e .if2 .left), sym (c .before .rows-outside .ensures) ∙ c .if3 .taken)
+
+returns-4 : tie.Need-returns-4
+returns-4 c = let e = c .before .before in rw (passed (e .before .before), le-ltb _ _ (e .if2 .left), sym (c .before .rows-outside .ensures) ∙ c .if3 .left)
+
+pub named-check-spec : {M : Type 1} → statement M
+named-check-spec = tie.close (tie.spec frame-check-requires returns returns-2 rows-outside-requires returns-3 returns-4)
