@@ -35,14 +35,14 @@ pub fn guard(s: u64) -> u64
 }
 
 // A difference by its weight.
-fn weighted(weight: u8, d: i32) -> i64
-    ensures { λ r. ⌜ (r ≡ pos weight *ℤ d) × (natAbs r ≤ 547608330240) ⌝ }
+fn weighted(weight: u8, d: i16) -> i32
+    ensures { λ r. ⌜ (r ≡ pos weight *ℤ d) × (natAbs r ≤ 8355840) ⌝ }
 {
-    weight as i64 * d as i64
+    weight as i32 * d as i32
 }
 
 // The five differences from the pixel outward, by their weights.
-pub fn five_sum(weights: [u8; 5], d: [i32; 5]) -> i64
+pub fn five_sum(weights: [u8; 5], d: [i16; 5]) -> i32
     ensures { λ a. ⌜ a ≡ fiveSum weights (λ k. getD d k (pos 0)) ⌝ }
 {
     weighted(weights[0], d[0])

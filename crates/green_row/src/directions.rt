@@ -4,7 +4,6 @@ ghost use lib.ListN.{length};
 ghost use Rattle.lists.specs.Table.{table, joined};
 ghost use Rattle.lists.specs.Bound.{AllAtMost, AllWithin};
 ghost use Rattle.gbtf.specs.Bounds.{mostDifference, mostGradient};
-ghost use Rattle.gbtf.specs.Direction.{total};
 ghost use Rattle.green_row.specs.Directions.{reversed, sumIn, fiveIn};
 use crate::sums::fives;
 use crate::sums::sums;
@@ -34,7 +33,7 @@ pub fn row_sums(s: usize, gh: &[u32], gv: &[u32], w: usize, t: &mut [u32])
 // The five-sums of a row of w readings, in the same order.
 pub fn row_fives(weights: [u8; 5], s: usize, dh: &[i32], dv: &[i32], w: usize, f: &mut [i32])
     requires { ⌜ (w + 14 ≤ s) × (s < 4112) × (length (now dh) ≡ 3 * s) × (length (now dv) ≡ 9 * s) × (length (now f) ≡ 4 * w) ⌝ }
-    requires { ⌜ (AllWithin mostDifference (now dh)) × (AllWithin mostDifference (now dv)) × (total weights ≤ 128) ⌝ }
+    requires { ⌜ (AllWithin mostDifference (now dh)) × (AllWithin mostDifference (now dv)) ⌝ }
     ensures { λ _. ⌜ now (f .exit) ≡ joined (λ k. table (fiveIn weights s (now (dh .entry)) (now (dv .entry)) k) w) 4 ⌝ }
 {
     let back = reversed(weights);

@@ -1,10 +1,11 @@
 ghost use mathlib.Core.Path.{_≡_};
 ghost use Prim.Native.Nat.{_+_, _*_, _≤_, _<_};
-ghost use lib.ListN.{length};
+ghost use lib.ListN.{length, getD};
+ghost use lib.IntN.{pos};
 ghost use Rattle.lists.specs.Table.{table};
 ghost use Rattle.lists.specs.Bound.{AllAtMost, AllWithin};
 ghost use Rattle.gbtf.specs.Bounds.{mostDifference, mostGradient};
-ghost use Rattle.gbtf.specs.Direction.{directionSum, fiveSum, total};
+ghost use Rattle.gbtf.specs.Direction.{directionSum, fiveSum};
 ghost use Rattle.green_row.specs.Directions.{windowIn, after};
 use gbtf::direction::direction_sum;
 use gbtf::direction::five_sum;
@@ -35,26 +36,34 @@ pub fn sums(g: &[u32], s: usize, at: usize, out: &mut [u32])
     }
 }
 
+// A difference, in 16 bits.
+fn narrow(d: &[i32], p: usize) -> i16
+    requires { ⌜ (p < length (now d)) × (AllWithin mostDifference (now d)) ⌝ }
+    ensures { λ r. ⌜ r ≡ getD (now (d .entry)) p (pos 0) ⌝ }
+{
+    d[p] as i16
+}
+
 // The five-sum of places p, p + step, ..
 fn five_at(weights: [u8; 5], d: &[i32], step: usize, p: usize) -> i32
-    requires { ⌜ (p + 4 * step < length (now d)) × (AllWithin mostDifference (now d)) × (total weights ≤ 128) ⌝ }
+    requires { ⌜ (p + 4 * step < length (now d)) × (AllWithin mostDifference (now d)) ⌝ }
     ensures { λ r. ⌜ r ≡ fiveSum weights (after step (now (d .entry)) p) ⌝ }
 {
     five_sum(
         weights,
         [
-            d[p],
-            d[p + step],
-            d[p + 2 * step],
-            d[p + 3 * step],
-            d[p + 4 * step],
+            narrow(d, p),
+            narrow(d, p + step),
+            narrow(d, p + 2 * step),
+            narrow(d, p + 3 * step),
+            narrow(d, p + 4 * step),
         ],
-    ) as i32
+    )
 }
 
 // The five-sums from place `at` on, of places `step` apart.
 pub fn fives(weights: [u8; 5], d: &[i32], step: usize, at: usize, out: &mut [i32])
-    requires { ⌜ (at + length (now out) + 4 * step ≤ length (now d)) × (AllWithin mostDifference (now d)) × (total weights ≤ 128) ⌝ }
+    requires { ⌜ (at + length (now out) + 4 * step ≤ length (now d)) × (AllWithin mostDifference (now d)) ⌝ }
     ensures { λ _. ⌜ now (out .exit) ≡ table (λ k. fiveSum weights (after step (now (d .entry)) (at + k))) (length (now (out .entry))) ⌝ }
 {
     let mut k = 0;

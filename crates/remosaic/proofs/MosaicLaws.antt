@@ -1,6 +1,6 @@
 -- What a call that gives the mosaic back delivers: readings in range, from the observed samples alone; and planes from which it gives back known readings. Assumes nothing.
 use Prim.Native.Nat.{ℕ, _+_, _*_, _/_, _%_, _≤_, _<_}
-use mathlib.Core.Path.{_≡_, sym, ap, _∙_}
+use mathlib.Core.Path.{_≡_, refl, sym, ap, _∙_}
 use mathlib.Core.Bool.{false, not}
 use mathlib.Core.List.{List}
 use native.Mathlib.Omega.{arith}
@@ -16,12 +16,19 @@ use Rattle.lists.proofs.JoinedLaws.{parts-same, joined-entries}
 use Rattle.bayer.specs.declared.colour.Colour.{Colour}
 use Rattle.bayer.specs.declared.colour.Colour.the-variants.{Red, Green, Blue}
 use Rattle.bayer.specs.declared.frame.Frame.{Frame}
+use Rattle.bayer.specs.Frame.{smoothed}
 use Rattle.bayer.specs.Planes.{Planes}
 use Rattle.bayer.specs.Refusal.{heldAfter}
 use Rattle.bayer.proofs.RefusalLaws.{delivers}
 use Rattle.remosaic.specs.MosaicBack.{observed, observedRows, notOfCamera, mosaicNumber, mosaicRows, MosaicPromise, ComesBack}
 use Rattle.remosaic.specs.Rows.{RowsLent}
 use Rattle.remosaic.proofs.NumberLaws.{fits, accepted}
+
+-- the smoothing is neither tested nor read
+pub any-smoothing : (w h layout c d a n : ℕ) (planes : Planes) (mosaic : ℕ)
+    → (mosaicNumber (smoothed w h layout c) a n planes mosaic ≡ mosaicNumber (smoothed w h layout d) a n planes mosaic) × (mosaicRows (smoothed w h layout c) a n planes ≡ mosaicRows (smoothed w h layout d) a n planes)
+unfolding mosaicNumber
+any-smoothing w h layout c d a n planes mosaic = (refl, refl)
 
 module _ (f : Frame) (a n : ℕ) where
   -- every reading that a call delivers is at most 4095

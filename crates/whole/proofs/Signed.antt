@@ -13,7 +13,7 @@ use Prim.Native.Nat.{ℕ, suc, _+_, _*_, _^_, _<_, _≤_}
 use native.Mathlib.Nat.{le-trans, lt-of-le-of-lt, le-refl, le-of-eq}
 use native.Mathlib.Omega.{arith}
 use borrow.Author.Tests.{ltb-true}
-use lib.Dec.{T, ltb, ltb→lt, lit<}
+use lib.Dec.{T, ltb, ltb→lt}
 use lib.Signed.{mag, mag-shr, shrZ, ltZ, nonNeg}
 use lib.IntN.{ℤ, pos, negsuc, natAbs, _+ℤ_, _-ℤ_, _*ℤ_}
 use mir.Syntax.{Width, w32, w64}
@@ -201,9 +201,9 @@ shifted {w} e d t =
     back w (shrZ (toZ w (bits e)) d) (ap (λ u. shrZ u d) (value e t) ∙ shr-floor (val e) d)
     (record { sfits = lt-of-le-of-lt (subst (λ u. mag u ≤ mag (val e)) (shr-floor (val e) d) (mag-shr (val e) d)) (fits e t .sfits) })
 
--- what the cast of any i32 asks
-pub wide-cast : (z : ℤ) → SFits w32 z → SFits w64 (toZ w32 (ofZ w32 z))
-wide-cast z f = rw (toZ-ofZ w32 z f) (fits-within z (abs-of-fits z f) (lit< tt))
+-- what the cast of any value to a wider type asks
+pub wide-cast : {w : Width} (v : Width) (z : ℤ) → SFits v z → 2 ^ hbits v < 2 ^ hbits w → SFits w (toZ v (ofZ v z))
+wide-cast v z f h = rw (toZ-ofZ v z f) (fits-within z (abs-of-fits z f) h)
 
 -- and what the machine reads of an expression is within its bound
 pub bounded : {w : Width} (e : E w) → T (ok e) → natAbs (toZ w (bits e)) ≤ bound e

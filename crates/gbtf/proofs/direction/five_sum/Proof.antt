@@ -5,7 +5,7 @@ use borrow.Author.Needs.{sfits-of}
 use lib.IntN.{ℤ, pos, _+ℤ_, _*ℤ_}
 use lib.ListN.{getD}
 use lib.Signed.{mag}
-use mir.Syntax.{w32, w64}
+use mir.Syntax.{w16, w32}
 use mir.Val.{ofZ, toZ}
 use mir.ValLaws.{toZ-ofZ}
 use Rattle.whole.proofs.Signed.{E, int, _⊕_, asked, value}
@@ -13,21 +13,21 @@ use Rattle.gbtf.proofs.direction.five_sum.Statement.{statement}
 use Rattle.gbtf.proofs.direction.five_sum.Tie as tie
 use borrow.Author.Needs.{needs}
 
-abbrev two : tie.After-weighted2 → E w64
-two c = int (c .before .before .weighted .result) 547608330240 (c .before .before .weighted .ensures .1) ⊕ int (c .weighted2 .result) 547608330240 (c .weighted2 .ensures .1)
+abbrev two : tie.After-weighted2 → E w32
+two c = int (c .before .before .weighted .result) 8355840 (c .before .before .weighted .ensures .1) ⊕ int (c .weighted2 .result) 8355840 (c .weighted2 .ensures .1)
 
-abbrev three : tie.After-weighted3 → E w64
-three c = two (c .before .before) ⊕ int (c .weighted3 .result) 547608330240 (c .weighted3 .ensures .1)
+abbrev three : tie.After-weighted3 → E w32
+three c = two (c .before .before) ⊕ int (c .weighted3 .result) 8355840 (c .weighted3 .ensures .1)
 
-abbrev four : tie.After-weighted4 → E w64
-four c = three (c .before .before) ⊕ int (c .weighted4 .result) 547608330240 (c .weighted4 .ensures .1)
+abbrev four : tie.After-weighted4 → E w32
+four c = three (c .before .before) ⊕ int (c .weighted4 .result) 8355840 (c .weighted4 .ensures .1)
 
-abbrev five : tie.After-weighted5 → E w64
-five c = four (c .before .before) ⊕ int (c .weighted5 .result) 547608330240 (c .weighted5 .ensures .1)
+abbrev five : tie.After-weighted5 → E w32
+five c = four (c .before .before) ⊕ int (c .weighted5 .result) 8355840 (c .weighted5 .ensures .1)
 
 -- what `weighted` was handed is what was read
-term : (w : ℕ) (d : ℤ) {r : ℤ} → r ≡ pos w *ℤ toZ w32 (ofZ w32 d) → mag d < 2147483648 → r ≡ pos w *ℤ d
-term w d e h = e ∙ ap (λ z. pos w *ℤ z) (toZ-ofZ w32 d (sfits-of h))
+term : (w : ℕ) (d : ℤ) {r : ℤ} → r ≡ pos w *ℤ toZ w16 (ofZ w16 d) → mag d < 32768 → r ≡ pos w *ℤ d
+term w d e h = e ∙ ap (λ z. pos w *ℤ z) (toZ-ofZ w16 d (sfits-of h))
 
 sum : {a b c d e a′ b′ c′ d′ e′ : ℤ} → a ≡ a′ → b ≡ b′ → c ≡ c′ → d ≡ d′ → e ≡ e′ → a +ℤ b +ℤ c +ℤ d +ℤ e ≡ a′ +ℤ b′ +ℤ c′ +ℤ d′ +ℤ e′
 sum p q r s t = rw (p, q, r, s, t)

@@ -67,7 +67,7 @@ part-fives-end-2 : tie.Need-part-fives-end-2
 part-fives-end-2 c = search needs
 
 fives-requires-2 : tie.Need-fives-requires-2
-fives-requires-2 c κs = let e = c .before .before in (omega arith, start e .pre .1 .0, rw (back e) (omega (arith, start e .pre .1 .2)))
+fives-requires-2 c κs = let e = c .before .before in (omega arith, start e .pre .1 .0)
 
 mul-fives-2 : tie.Need-mul-fives-2
 mul-fives-2 c = search needs
@@ -82,7 +82,7 @@ part-fives-end-3 : tie.Need-part-fives-end-3
 part-fives-end-3 c = search needs
 
 fives-requires-3 : tie.Need-fives-requires-3
-fives-requires-3 c κs = let e = c₁ (c .before .before) in (omega arith, start e .pre .1 .1, rw (back e) (omega (arith, start e .pre .1 .2)))
+fives-requires-3 c κs = let e = c₁ (c .before .before) in (omega arith, start e .pre .1 .1)
 
 mul-fives-3 : tie.Need-mul-fives-3
 mul-fives-3 c = search needs
@@ -103,7 +103,7 @@ part-fives-end-4 : tie.Need-part-fives-end-4
 part-fives-end-4 c = search needs
 
 fives-requires-4 : tie.Need-fives-requires-4
-fives-requires-4 c κs = (omega arith, start (c₁ (c₂ (c .before .before))) .pre .1 .1, start (c₁ (c₂ (c .before .before))) .pre .1 .2)
+fives-requires-4 c κs = (omega arith, start (c₁ (c₂ (c .before .before))) .pre .1 .1)
 
 same-length : tie.Need-same-length
 same-length c = search needs

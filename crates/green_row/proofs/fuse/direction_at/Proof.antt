@@ -3,6 +3,7 @@ use Prim.Native.Nat.{_+_, _*_, _≤_}
 use native.Mathlib.Omega.{arith}
 use mathlib.Core.Path.{ap, _∙_}
 use borrow.Author.Needs.{sfits-of}
+use lib.Dec.{lit<}
 use lib.IntN.{pos}
 use lib.ListN.{getD}
 use mir.Syntax.{w32, w64}
@@ -30,7 +31,7 @@ shared-slice-copy-out-t9 : tie.Need-shared-slice-copy-out-t9
 shared-slice-copy-out-t9 c = omega (arith, inside c)
 
 cast-t10 : tie.Need-cast-t10
-cast-t10 c = wide-cast (let a = c .before .args in getD (a .f .now) (a .k * a .w + a .j) (pos 0)) (sfits-of (c .t9 .given))
+cast-t10 c = wide-cast w32 (let a = c .before .args in getD (a .f .now) (a .k * a .w + a .j) (pos 0)) (sfits-of (c .t9 .given)) (lit< tt)
 
 mul-t11 : tie.Need-mul-t11
 mul-t11 c = omega (arith, inside (c .before))
@@ -46,7 +47,7 @@ returns c =
     let a = c .before .before .args in
     let p = a .k * a .w + a .j in
     let h = sfits-of {w = w32} (c .before .t9 .given) in
-    ap (λ z. direction z (getD (a .t .now) p 0)) (toZ-ofZ w64 _ (wide-cast (getD (a .f .now) p (pos 0)) h) ∙ toZ-ofZ w32 _ h)
+    ap (λ z. direction z (getD (a .t .now) p 0)) (toZ-ofZ w64 _ (wide-cast w32 (getD (a .f .now) p (pos 0)) h (lit< tt)) ∙ toZ-ofZ w32 _ h)
 
 pub direction-at-spec : {M : Type 1} → statement M
 direction-at-spec =

@@ -26,7 +26,7 @@ add-five-at c = omega arith
 five-at-requires : tie.Need-five-at-requires Inv-loop μ-loop
 five-at-requires c κs =
     let p = c .before .before .pre in
-    (omega arith, p .1, p .2)
+    (omega arith, p .1)
 
 mul-t10 : tie.Need-mul-t10 Inv-loop μ-loop
 mul-t10 c = omega arith
