@@ -1,4 +1,5 @@
 pub mod PixelBounds
+pub mod WeightLaws
 pub mod MachineBounds
 pub mod Mean
 pub mod PrintedForms

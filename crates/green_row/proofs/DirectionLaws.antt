@@ -27,8 +27,12 @@ use Rattle.green_row.proofs.BufferBounds.{window-at-most}
 pub sum-at : (s : ℕ) (g : List ℕ) {p q : ℕ} → p ≡ q → directionSum (windowIn s g p) ≡ directionSum (windowIn s g q)
 sum-at s g e = ap (λ p. directionSum (windowIn s g p)) e
 
+-- from another name of the place on
 pub five-after : (ws : List ℕ) (step : ℕ) (d : List ℤ) {p q : ℕ} → p ≡ q → fiveSum ws (after step d p) ≡ fiveSum ws (after step d q)
 five-after ws step d e = ap (λ p. fiveSum ws (after step d p)) e
+
+pub five-before : (ws : List ℕ) (step : ℕ) (d : List ℤ) {p q : ℕ} → p ≡ q → fiveSum ws (before step d p) ≡ fiveSum ws (before step d q)
+five-before ws step d e = ap (λ p. fiveSum ws (before step d p)) e
 
 -- the other way round
 turned : (ws : List ℕ) (D : ℕ → ℤ) → fiveSum (reversed ws) D ≡ fiveSum ws (λ k. D (4 - k))
@@ -36,8 +40,8 @@ turned ws D =
     let a : ℕ → ℤ = λ k. pos (getD ws k 0) *ℤ D (4 - k) in
     eq-by (anyₚ (a 4) +ₚ anyₚ (a 3) +ₚ anyₚ (a 2) +ₚ anyₚ (a 1) +ₚ anyₚ (a 0)) (anyₚ (a 0) +ₚ anyₚ (a 1) +ₚ anyₚ (a 2) +ₚ anyₚ (a 3) +ₚ anyₚ (a 4)) (omega arith)
 
-pub five-before : (ws : List ℕ) {back : List ℕ} (step : ℕ) (d : List ℤ) (p q : ℕ) → back ≡ reversed ws → p + 4 * step ≡ q → fiveSum back (after step d p) ≡ fiveSum ws (before step d q)
-five-before ws step d p q r e = rw r (turned ws (after step d p) ∙ five-sum-same ws (λ k. after step d p (4 - k)) (before step d q) at)
+pub five-reversed : (ws : List ℕ) {back : List ℕ} (step : ℕ) (d : List ℤ) (p q : ℕ) → back ≡ reversed ws → p + 4 * step ≡ q → fiveSum back (after step d p) ≡ fiveSum ws (before step d q)
+five-reversed ws step d p q r e = rw r (turned ws (after step d p) ∙ five-sum-same ws (λ k. after step d p (4 - k)) (before step d q) at)
   where
     at : (k : ℕ) → k ≤ 4 → after step d p (4 - k) ≡ before step d q k
     at k l = let i : 4 ≡ (4 - k) + k = omega arith in let m : p + (4 - k) * step ≡ q - k * step = omega (arith, ap (λ n. n * step) i) in ap (λ n. getD d n (pos 0)) m

@@ -86,8 +86,7 @@ pub fn fuse(
     requires { ⌜ (length (now t) ≡ 4 * length (now x)) × (length (now f) ≡ 4 * length (now x)) ⌝ }
     ensures { λ _. ⌜ now (out .exit) ≡ table (greenIn scale (weightsOf smoothing) s odd (now (x .entry)) (now (dh .entry)) (now (dv .entry)) (now (gh .entry)) (now (gv .entry))) (length (now (out .entry))) ⌝ }
 {
-    let weights = weights_of(smoothing);
     row_sums(s, gh, gv, x.len(), t);
-    row_fives(weights, s, dh, dv, x.len(), f);
-    fuse_row(total(weights), x, odd, t, f, out);
+    row_fives(smoothing, s, dh, dv, x.len(), f);
+    fuse_row(total(weights_of(smoothing)), x, odd, t, f, out);
 }

@@ -1,14 +1,10 @@
 -- `gbtf::weights::weights_of` meets its contract. Assumes nothing.
-use Prim.Native.Nat.{ℕ, zero, suc}
-use mathlib.Core.Path.{_≡_, refl, sym, ap, _∙_}
+use mathlib.Core.Path.{sym, ap}
 use lib.Dec.{lit≤}
-use Rattle.gbtf.specs.Weights.{evenWeights, taperedWeights, weightsOf}
+use Rattle.gbtf.specs.Weights.{weightsOf}
+use Rattle.gbtf.proofs.WeightLaws.{not-even}
 use Rattle.gbtf.proofs.weights.weights_of.Statement.{statement}
 use Rattle.gbtf.proofs.weights.weights_of.Tie as tie
-
-not-even : (smoothing : ℕ) → (smoothing ≡ 0 → ⊥) → weightsOf smoothing ≡ taperedWeights
-not-even zero h = absurd (h refl)
-not-even (suc _) h = refl
 
 returns : tie.Need-returns
 returns c = (sym (ap weightsOf (c .if1 .taken)), (lit≤ tt, lit≤ tt))
