@@ -48,7 +48,7 @@ enum {
     ROKZIMP_NO_SUCH_ROW = 7,    /* "no such row": a plane is shorter than (row + 1) * width, not wrapped; partner view: or row >= height */
     /* 8 is for what the two programs read, which no function here does */
     ROKZIMP_NOT_CAMERA_PLANES = 9, /* "not camera planes": an observed sample is not a multiple of 16, or is above 65520 */
-    ROKZIMP_UNKNOWN_SMOOTHING = 10 /* "unknown smoothing": smoothing above 1 */
+    ROKZIMP_UNKNOWN_SMOOTHING = 10 /* "unknown smoothing": smoothing above 1; strips only */
 };
 
 /* The rows of the mosaic that a strip of `rows` rows from `first_row` on is lent: rokzimp_piece_rows rows from row
@@ -61,8 +61,8 @@ size_t rokzimp_piece_rows(size_t height, size_t first_row, size_t rows);
  * columns; its count and those of the planes are of samples. Tests 1, 2, 10, 3, 4, 5 and 6, in that order. Returns 0 and every
  * sample of the three planes is written; or the refusal, and none is. The piece is only read. Every sample of green then lies
  * within 0.53 units, and every one of red and blue within 1.55, of the exact reconstruction of the whole frame, which is the same
- * rules with the same smoothing and nothing rounded (docs/PROVED.md, demand 3); a unit is a sixteenth of a reading. So it is of a
- * plane whose strips all named one smoothing. The observed sample is 16 times the reading. */
+ * rules with the same smoothing and nothing rounded (docs/PROVED.md, demand 3); a unit is a sixteenth of a reading. The same holds
+ * of a whole plane if all its strips are of one smoothing. The observed sample is 16 times the reading. */
 uint32_t rokzimp_strip_smoothed(size_t width, size_t height, uint8_t layout, uint8_t smoothing, size_t first_row, size_t rows,
                                 const uint16_t *piece, size_t piece_count,
                                 uint16_t *red, size_t red_count,
@@ -74,8 +74,8 @@ uint32_t rokzimp_strip_smoothed_check(size_t width, size_t height, uint8_t layou
                                       const uint16_t *piece, size_t piece_count,
                                       size_t red_count, size_t green_count, size_t blue_count);
 
-/* The same with no smoothing named, which is 1; so these never return 10. CHANGED: before smoothing could be named they weighted
- * evenly. A caller who wants the samples of then calls rokzimp_strip_smoothed with 0. */
+/* The same with no smoothing named, which is 1; so these never return 10. CHANGED: rokzimp_strip delivers other samples than before
+ * smoothing could be named, when the weights were even. To keep the old ones, call rokzimp_strip_smoothed with smoothing 0. */
 uint32_t rokzimp_strip(size_t width, size_t height, uint8_t layout, size_t first_row, size_t rows,
                        const uint16_t *piece, size_t piece_count,
                        uint16_t *red, size_t red_count,

@@ -5,7 +5,7 @@
 
 FRAME is a file of document 01's format, of any size that the format allows, '-' for standard input. Writes OUT.red, OUT.green and
 OUT.blue, 16-bit samples, big-endian, row by row; and OUT.png, 8 bits for each colour, the samples' upper bytes. The frame is worked
-out in strips of ROWS rows (default 64). Smoothing 0 is the small program's, and 1 the library's where none is named. A refusal prints
+out in strips of ROWS rows (default 64). N is the smoothing: 0 is the small program's; where none is named it is 1. A refusal prints
 one line, as the small program does, and nothing is written."""
 import argparse
 import array
@@ -64,10 +64,10 @@ def png(width, height, red, green, blue):
 
 def main(words):
     parser = argparse.ArgumentParser(description=__doc__, formatter_class=argparse.RawDescriptionHelpFormatter)
-    parser.add_argument("--smoothing", type=int)
-    parser.add_argument("frame")
-    parser.add_argument("out")
-    parser.add_argument("rows", type=int, nargs="?", default=64)
+    parser.add_argument("--smoothing", type=int, metavar="N", help="0: even weights; 1: by distance, as where none is named")
+    parser.add_argument("frame", help="a frame file, or - for standard input")
+    parser.add_argument("out", help="what the names of the files begin with")
+    parser.add_argument("rows", type=int, nargs="?", default=64, help="of a strip")
     asked = parser.parse_args(words)
     data = sys.stdin.buffer.read() if asked.frame == "-" else open(asked.frame, "rb").read()
     try:

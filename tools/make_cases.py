@@ -275,8 +275,8 @@ class Maker:
 
     # -------------------------------------------------------- a strip call
     def strip(self, W, H, layout, a, n, recipe=None, puts=None, seed=None, P=None, planes=None, true=None, kind='S', choice=None):
-        """The lengths are the right ones of the call `true` (W, H, a, n), or of this one, unless they are given. The smoothing is named evenly, or 1,
-        or not at all, in turn, unless it is given."""
+        """The lengths are the right ones of the call `true` (W, H, a, n), or of this one, unless they are given. The smoothing is 0, 1 or not named, in turn,
+        unless it is given."""
         w, h, b, m = true or (W, H, a, n)
         lo, hi = r.strip_rows(h, b, m)
         P = (hi - lo) * w if P is None else P
@@ -676,4 +676,5 @@ def main():
     print('%d cases' % len(m.answers), ' '.join('%s:%d' % kv for kv in sorted(m.count.items())))
 
 
-main()
+if __name__ == "__main__":
+    main()

@@ -86,8 +86,8 @@ pub extern "C" fn rokzimp_strip_smoothed_check(
 ) -> u32
     ensures { λ r. ⌜ r ≡ stripNumber (asked (smoothed width height layout smoothing) a n (now (piece .entry))) red green blue ⌝ }
 {
-    let frame = Frame::smoothed(width, height, layout, smoothing);
-    strip_check(frame, a, n, piece, red, green, blue)
+    let named = Frame::smoothed(width, height, layout, smoothing);
+    strip_check(named, a, n, piece, red, green, blue)
 }
 
 #[no_mangle]
@@ -105,8 +105,8 @@ pub extern "C" fn rokzimp_strip_smoothed(
 ) -> u32
     ensures { λ r. ⌜ Promise (asked (smoothed width height layout smoothing) a n (now (piece .entry))) (threePlanes (now (red .entry)) (now (green .entry)) (now (blue .entry))) r (threePlanes (now (red .exit)) (now (green .exit)) (now (blue .exit))) ⌝ }
 {
-    let frame = Frame::smoothed(width, height, layout, smoothing);
-    strip(frame, a, n, piece, red, green, blue)
+    let named = Frame::smoothed(width, height, layout, smoothing);
+    strip(named, a, n, piece, red, green, blue)
 }
 
 // The number of a call that gives the mosaic back into one of this length: 0, or its refusal.

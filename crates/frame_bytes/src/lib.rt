@@ -26,7 +26,7 @@ pub fn four_bytes(bytes: &[u8], at: usize) -> u32
     two_bytes(bytes, at) as u32 * 65536 + two_bytes(bytes, at + 2) as u32
 }
 
-// The frame description of a program's input. Its smoothing is 0, also where the library's callers name none and get 1.
+// The frame description of a program's input. The programs name smoothing 0, since a caller who names none gets 1.
 pub fn frame_at(bytes: &[u8], at: usize) -> Frame
     requires { ⌜ at + 5 ≤ length (now bytes) ⌝ }
     ensures { λ r. ⌜ r ≡ frameAt (now (bytes .entry)) at ⌝ }

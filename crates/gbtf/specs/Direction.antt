@@ -16,7 +16,7 @@ directionSum w = sum3 (λ i. sum3 (λ j. getD (getD w i []) j 0))
 abbrev pub guarded : ℕ → ℕ
 guarded s = max s 4
 
--- document 01's five-sum A: the five differences from the pixel outward, by their weights, which are five ones in 01 (equation 9)
+-- document 01's five-sum A: the five differences from the pixel outward, by their weights: five ones in 01 (equation 9), and those of smoothing 1 in 02 (A.5)
 abbrev pub fiveSum : (weights : List ℕ) (D : ℕ → ℤ) → ℤ
 fiveSum ws D =
     pos (getD ws 0 0) *ℤ D 0 +ℤ pos (getD ws 1 0) *ℤ D 1 +ℤ pos (getD ws 2 0) *ℤ D 2 +ℤ pos (getD ws 3 0) *ℤ D 3 +ℤ pos (getD ws 4 0) *ℤ D 4

@@ -1,9 +1,10 @@
 -- `frame_bytes::frame_at` meets its contract. Assumes nothing.
 use Prim.Native.Nat.{_+_}
-use mathlib.Core.Path.{ap₂, _∙_}
+use mathlib.Core.Path.{_∙_}
+use native.Mathlib.Omega.{arith}
 use lib.ListN.{getD}
 use borrow.Author.Needs.{needs}
-use Rattle.bayer.specs.Frame.{smoothed}
+use Rattle.bayer.proofs.FrameLaws.{same-frame}
 use Rattle.frame_bytes.proofs.frame_at.Statement.{statement}
 use Rattle.frame_bytes.proofs.frame_at.Tie as tie
 
@@ -35,7 +36,7 @@ returns : tie.Need-returns
 returns c =
     let p = c .before .before .before in
     let a = p .before .before .args in
-    c .smoothed .ensures ∙ ap₂ (λ w h. smoothed w h (getD (a .bytes .now) (a .at + 4) 0) 0) (p .two-bytes .ensures) (c .before .before .two-bytes2 .ensures)
+    c .smoothed .ensures ∙ same-frame (getD (a .bytes .now) (a .at + 4) 0) (p .two-bytes .ensures) (c .before .before .two-bytes2 .ensures) (omega arith)
 
 pub frame-at-spec : {M : Type 1} → statement M
 frame-at-spec =

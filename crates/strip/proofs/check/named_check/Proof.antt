@@ -1,7 +1,9 @@
 -- `strip::check::named_check` meets its contract, by its tests in their order. Assumes nothing.
+use Prim.Native.Nat.{ℕ}
 use mathlib.Core.Path.{_≡_, sym, _∙_}
 use mathlib.Core.Bool.{cond}
 use mathlib.Core.List.{_++_}
+use native.Mathlib.Omega.{arith}
 use borrow.Author.Needs.{needs}
 use borrow.Author.Tests.{lt-ltb, le-ltb}
 use lib.Dec.{ltb}
@@ -17,6 +19,9 @@ frame-check-requires c κs = search needs
 returns : tie.Need-returns
 returns c = c .before .frame-check .ensures ∙ sym (sooner (frameCases (c .before .before .args .frame)) _ (λ e. c .if1 .taken (c .before .frame-check .ensures ∙ e)))
 
+abbrev smoothing : tie.Else1 → ℕ
+smoothing c = c .before .before .args .frame .smoothing
+
 -- the frame is passed: its smoothing and the rows decide
 passed : (c : tie.Else1) → let a = c .before .before .args in
     firstOf (frameCases (a .frame) ++ (smoothingCases (a .frame .smoothing) ++ rowsCases (a .frame) (a .a) (a .n)))
@@ -25,16 +30,21 @@ unfolding firstOf
 passed c = let a = c .before .before .args in later (frameCases (a .frame)) (smoothingCases (a .frame .smoothing) ++ rowsCases (a .frame) (a .a) (a .n)) (sym (c .before .frame-check .ensures) ∙ c .if1 .left)
 
 returns-2 : tie.Need-returns-2
-returns-2 c = rw (passed (c .before .before), lt-ltb _ _ (c .if2 .taken))
+returns-2 c = rw (passed (c .before .before), lt-ltb 1 (smoothing (c .before .before)) (omega (arith, c .if2 .taken))) (omega arith)
+
+-- and the smoothing: the rows decide
+known : (c : tie.Else2) → let a = c .before .before .before .before .args in
+    firstOf (frameCases (a .frame) ++ (smoothingCases (a .frame .smoothing) ++ rowsCases (a .frame) (a .a) (a .n))) ≡ cond (rowsOutside (a .frame .height) (a .a) (a .n)) 3 0
+known c = rw (passed (c .before .before), le-ltb 1 (smoothing (c .before .before)) (omega (arith, c .if2 .left)))
 
 rows-outside-requires : tie.Need-rows-outside-requires
 rows-outside-requires c κs = search needs
 
 returns-3 : tie.Need-returns-3
-returns-3 c = let e = c .before .before in rw (passed (e .before .before), le-ltb _ _ (e .if2 .left), sym (c .before .rows-outside .ensures) ∙ c .if3 .taken)
+returns-3 c = rw (known (c .before .before), sym (c .before .rows-outside .ensures) ∙ c .if3 .taken) (omega arith)
 
 returns-4 : tie.Need-returns-4
-returns-4 c = let e = c .before .before in rw (passed (e .before .before), le-ltb _ _ (e .if2 .left), sym (c .before .rows-outside .ensures) ∙ c .if3 .left)
+returns-4 c = rw (known (c .before .before), sym (c .before .rows-outside .ensures) ∙ c .if3 .left) (omega arith)
 
 pub named-check-spec : {M : Type 1} → statement M
 named-check-spec = tie.close (tie.spec frame-check-requires returns returns-2 rows-outside-requires returns-3 returns-4)
