@@ -18,8 +18,8 @@
  *
  * A frame has `width` columns and `height` rows, each 8 to 4096. Rows and columns count from 0. Readings are 0 to 4095. The
  * layout gives the colours of an even and of an odd row: 0 = RG GB, 1 = GR BG, 2 = GB RG, 3 = BG GR. It is a byte here: C
- * cuts a wider number to its low byte without a word, so test a wider one before the call. So is the smoothing, which says how
- * a strip weights the five differences of a direction, from the pixel outward: 0 = evenly, 1 = 26, 24, 21, 17 and 12 hundredths.
+ * cuts a wider number to its low byte without a word, so test a wider one before the call. The smoothing is a byte too: it says
+ * how a strip weights the five differences of a direction, from the pixel outward: 0 = evenly, 1 = 26, 24, 21, 17 and 12 hundredths.
  * Samples are in sixteenths of a reading, 0 to 65520. The observed sample of a pixel is the one in the plane of its filter's
  * colour. Mosaics and planes are stored row by row, without gaps.
  *

@@ -10,9 +10,11 @@ use Rattle.whole.proofs.Pairs.{Pair, anyₚ, natₚ, _+ₚ_, _*ₚ_, eq-by, eq-
 use Rattle.lists.specs.Part.{rowOf}
 use Rattle.lists.specs.Table.{table, joined}
 use Rattle.lists.specs.Every.{Every}
+use Rattle.lists.specs.Any.{any}
 use Rattle.bayer.specs.declared.colour.Colour.the-variants.{Green}
 use Rattle.bayer.specs.Colour.{colours, colourAt}
 use Rattle.bayer.specs.Mirror.{mirror}
+use Rattle.bayer.specs.Refusal.{firstOf}
 use Rattle.gbtf.specs.declared.direction.Direction.{Direction}
 use Rattle.gbtf.specs.Difference.{difference}
 use Rattle.gbtf.specs.Direction.{guardedSum}
@@ -22,6 +24,7 @@ use Rattle.gbtf.specs.Weights.{scale}
 use Rattle.green_rule.specs.Greens.{greens}
 use Rattle.demosaic.specs.Fill.{fill}
 use Rattle.demosaic.specs.Sample.{neighbours, otherFrom, sample}
+use Rattle.strip.specs.Strip.{stripNumber}
 use Rattle.test_frames.specs.Generator.{affine, iterate, readingsAfter}
 use Rattle.worked_planes.specs.Rule.{planeIs}
 use Rattle.figures.specs.Figures.{adds, frame8, readings8, holds, figures}
@@ -71,7 +74,7 @@ greens-4095 = (tt, tt)
 -- ---- the table
 
 pub figures-hold : Every holds figures
-unfolding colours colourAt mirror rowOf table joined difference fusion fill neighbours otherFrom affine iterate readingsAfter
+unfolding colours colourAt mirror rowOf table joined difference fusion fill neighbours otherFrom affine iterate readingsAfter firstOf any stripNumber
 figures-hold =
     tt and tt
     and tt
@@ -86,6 +89,7 @@ figures-hold =
     and tt and tt and tt and tt
     and tt and tt and tt
     and tt and tt
+    and refl and refl and refl and refl and refl
     and (refl, refl) and (refl, refl) and refl
     and refl and refl and refl and refl and refl
     and refl and refl

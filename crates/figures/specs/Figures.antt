@@ -22,6 +22,7 @@ use Rattle.gbtf.specs.Fusion.{smallestSum, share, shares, sharedDifferences, fu
 use Rattle.gbtf.specs.Weights.{scale, weightsOf}
 use Rattle.demosaic.specs.Fill.{fill}
 use Rattle.demosaic.specs.Exact.{printedError}
+use Rattle.strip.specs.Strip.{asked, stripNumber}
 use Rattle.remosaic.specs.MosaicBack.{notOfCamera, mosaicRows}
 use Rattle.test_frames.specs.Generator.{readingsAfter}
 use Rattle.worked_planes.specs.Rule.{PlanesAre}
@@ -41,6 +42,8 @@ pub data Claim : Type 0 where
   -- the hundredths of a unit that plane k may lie from the exact reconstruction
   printedIs : (k : Colour) → ℕ → Claim
   numberIs : Refusal → ℕ → Claim
+  -- the number of a strip call of no row of an 8 by 8 frame of this layout and smoothing, lent nothing
+  noRowIs : (layout smoothing : ℕ) → ℕ → Claim
   -- the weights of a smoothing, and their total
   weightsAre : (smoothing : ℕ) → List ℕ → (T : ℕ) → Claim
   -- the smoothing of a frame description that names none
@@ -84,6 +87,7 @@ holds (planesOf smoothing red green blue R G B) = PlanesAre (frame8 smoothing) (
 holds (mirrorReads size z v) = T (eqb (mirror size z) v)
 holds (printedIs k n) = T (eqb (printedError k) n)
 holds (numberIs r n) = T (eqb (number r) n)
+holds (noRowIs layout smoothing n) = stripNumber (asked (smoothed 8 8 layout smoothing) 0 0 []) 0 0 0 ≡ n
 holds (weightsAre smoothing ws T) = (weightsOf smoothing ≡ ws) × (total ws ≡ T)
 holds (unnamedIs smoothing) = frame 8 8 0 .smoothing ≡ smoothing
 holds (refusedIs sample b) = notOfCamera sample ≡ b
@@ -104,6 +108,7 @@ figures =
     ∷ mirrorReads 8 (negsuc 0) 1 ∷ mirrorReads 8 (negsuc 6) 7 ∷ mirrorReads 8 (pos 8) 6 ∷ mirrorReads 8 (pos 14) 0
     ∷ printedIs Red 155 ∷ printedIs Green 53 ∷ printedIs Blue 155
     ∷ numberIs notCameraPlanes 9 ∷ numberIs unknownSmoothing 10
+    ∷ noRowIs 0 0 3 ∷ noRowIs 0 1 3 ∷ noRowIs 0 2 10 ∷ noRowIs 0 255 10 ∷ noRowIs 4 2 2
     ∷ weightsAre 0 (1 ∷ 1 ∷ 1 ∷ 1 ∷ 1 ∷ []) 5 ∷ weightsAre 1 (26 ∷ 24 ∷ 21 ∷ 17 ∷ 12 ∷ []) 100 ∷ unnamedIs 1
     ∷ refusedIs 16 false ∷ refusedIs 17 true ∷ refusedIs 65520 false ∷ refusedIs 65521 true ∷ refusedIs 65536 true
     ∷ mosaicIs 0 8 6400 3200 1600 400 200 100 ∷ mosaicIs 3 2 65520 0 0 4095 0 0

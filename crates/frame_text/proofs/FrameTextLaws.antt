@@ -1,6 +1,6 @@
 -- What a strip call on a whole frame answers is what is printed of the frame; and where its smoothing is 0, as the programs name it, the number is not 10. Assumes nothing.
 use Prim.Native.Nat.{ℕ, _*_}
-use mathlib.Core.Path.{_≡_, refl, sym, _∙_}
+use mathlib.Core.Path.{_≡_, sym, _∙_}
 use mathlib.Core.List.{List, _++_}
 use lib.ListN.{length}
 use Rattle.bayer.specs.declared.colour.Colour.the-variants.{Red, Green, Blue}
@@ -15,9 +15,9 @@ use Rattle.plane_text.specs.Text.{lines, refusalLine, printed}
 use Rattle.plane_text.proofs.LineLaws.{same-lines, refused-line}
 use Rattle.frame_text.specs.FrameText.{frameText, wholeNumber}
 
-pub even-number : (f : Frame) (readings : List ℕ) → f .smoothing ≡ 0 → wholeNumber f readings ≡ firstOf (frameCases f ++ rangeCases readings)
+pub number-evenly : (f : Frame) (readings : List ℕ) → f .smoothing ≡ 0 → wholeNumber f readings ≡ firstOf (frameCases f ++ rangeCases readings)
 unfolding firstOf
-even-number f readings e = skip (frameCases f) (smoothingCases (f .smoothing)) (rangeCases readings) (λ _. rw e)
+number-evenly f readings e = skip (frameCases f) (smoothingCases (f .smoothing)) (rangeCases readings) (λ _. rw e)
 
 module _ (f : Frame) (mosaic : List ℕ) (long : length mosaic ≡ f .width * f .height) {lent after : Planes} {number : ℕ}
     (p : Promise (asked f 0 (f .height) mosaic) lent number after)

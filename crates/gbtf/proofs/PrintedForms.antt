@@ -16,7 +16,7 @@ use Rattle.gbtf.specs.declared.direction.Direction.{Direction}
 use Rattle.gbtf.specs.Direction.{directionSum, fiveSum, guardedSum}
 use Rattle.gbtf.specs.Fusion.{smallestSum, share, fusion, green}
 use Rattle.gbtf.specs.Exact.{sumOfA/t², sumOf1/t², above0, exactGreen}
-use Rattle.gbtf.specs.GreenAt.{gradientAlong, DH, DV, GH, GV, window, east, west, north, south, greenAt}
+use Rattle.gbtf.specs.GreenAt.{gradientAlong, DH, DV, GH, GV, window, east, west, north, south, greenAt, exactGreenAt}
 use Rattle.gbtf.specs.Weights.{evenWeights, taperedWeights}
 use Rattle.gbtf.proofs.Mean.{attained, least-pos, shares-least}
 
@@ -63,6 +63,7 @@ fusion-hundred N S h =
     let d : 2 * (100 * S) ≡ 4 * (50 * S) = omega arith in
     ap₂ floorDiv x d ∙ floor-times 4 (pos 2 *ℤ N +ℤ pos (25 * S)) (50 * S) (lit≤ tt) (omega arith)
 
+-- and of the exact form
 pub exact-hundred : (c : ℕ) (h : 0 < 100) (d : Direction) (l : List Direction) → Same (exactGreen 100 c h d l) (clampᶠ (natural (16 * c) +ᶠ dividedBy (quotient (sumOfA/t² (d ∷ l)) (sumOf1/t² (d ∷ l)) (above0 d l)) 25 (lit≤ tt)))
 unfolding exactGreen
 exact-hundred c h d l = let x = quotient (sumOfA/t² (d ∷ l)) (sumOf1/t² (d ∷ l)) (above0 d l) in four-times _ _ _ (fourfold (x .plus) (x .minus) (x .under))
@@ -143,3 +144,10 @@ module _ (x : Mosaic) (i j : ℤ) where
 
       some : 0 < S
       some = omega (arith, shares-least (2 ^ 24) (least-pos (east taperedWeights x i j) directions) (attained (east taperedWeights x i j) directions))
+
+  -- its exact form
+  pub exact-tapered : (h : 0 < 100) → isGreen x i j ≡ false →
+      let l = east taperedWeights x i j ∷ west taperedWeights x i j ∷ north taperedWeights x i j ∷ south taperedWeights x i j ∷ [] in
+      Same (exactGreenAt taperedWeights x i j h) (clampᶠ (natural (16 * x .reading i j) +ᶠ dividedBy (quotient (sumOfA/t² l) (sumOf1/t² l) (above0 _ _)) 25 (lit≤ tt)))
+  unfolding exactGreenAt
+  exact-tapered h e = rw e (exact-hundred (x .reading i j) h _ _)

@@ -3,6 +3,6 @@ use Prim.Native.Nat.{ℕ, zero, suc}
 use mathlib.Core.Path.{_≡_, refl}
 use Rattle.gbtf.specs.Weights.{taperedWeights, weightsOf}
 
-pub not-even : (smoothing : ℕ) → (smoothing ≡ 0 → ⊥) → weightsOf smoothing ≡ taperedWeights
-not-even zero h = absurd (h refl)
-not-even (suc _) h = refl
+pub tapered-unless-0 : (smoothing : ℕ) → (smoothing ≡ 0 → ⊥) → weightsOf smoothing ≡ taperedWeights
+tapered-unless-0 zero h = absurd (h refl)
+tapered-unless-0 (suc _) h = refl

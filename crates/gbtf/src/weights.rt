@@ -6,7 +6,7 @@ ghost use Rattle.gbtf.specs.Weights.{weightsOf};
 
 pub const SCALE: u64 = 16777216;
 
-// The weights by the frame description's smoothing, from the pixel outward: even, or in hundredths. Their total is what the code of fusion has room for.
+// The weights by the frame description's smoothing, from the pixel outward: even, or in hundredths. Their total is above 0 and at most 128, as fusion asks.
 pub fn weights_of(smoothing: u8) -> [u8; 5]
     ensures { λ r. ⌜ r ≡ weightsOf smoothing ⌝ }
     ensures { λ r. ⌜ (0 < total r) × (total r ≤ 128) ⌝ }

@@ -27,7 +27,7 @@ use Rattle.green_row.proofs.BufferBounds.{window-at-most}
 pub sum-at : (s : ℕ) (g : List ℕ) {p q : ℕ} → p ≡ q → directionSum (windowIn s g p) ≡ directionSum (windowIn s g q)
 sum-at s g e = ap (λ p. directionSum (windowIn s g p)) e
 
--- from another name of the place on
+-- the same place, named otherwise
 pub five-after : (ws : List ℕ) (step : ℕ) (d : List ℤ) {p q : ℕ} → p ≡ q → fiveSum ws (after step d p) ≡ fiveSum ws (after step d q)
 five-after ws step d e = ap (λ p. fiveSum ws (after step d p)) e
 

@@ -1,7 +1,7 @@
 -- What a call is handed from a slice of i32 is what stands there. Assumes nothing.
 use Prim.Native.Nat.{ℕ, _<_}
 use mathlib.Core.List.{List, [], _∷_}
-use mathlib.Core.Path.{_≡_, ap, _∙_}
+use mathlib.Core.Path.{_≡_}
 use borrow.Author.Needs.{sfits-of}
 use lib.IntN.{ℤ, pos}
 use lib.ListN.{getD}
@@ -11,9 +11,8 @@ use mir.Val.{ofZ, toZ}
 use mir.ValLaws.{toZ-ofZ}
 use Rattle.gbtf.specs.Direction.{fiveSum}
 
--- place i, read at place k
-pub read-at : (d : List ℤ) (k : ℕ) {i : ℕ} → k ≡ i → mag (getD d k (pos 0)) < 2147483648 → toZ w32 (ofZ w32 (getD d k (pos 0))) ≡ getD d i (pos 0)
-read-at d k e h = toZ-ofZ w32 _ (sfits-of h) ∙ ap (λ (j : ℕ). getD d j (pos 0)) e
+pub read-at : (d : List ℤ) (k : ℕ) → mag (getD d k (pos 0)) < 2147483648 → toZ w32 (ofZ w32 (getD d k (pos 0))) ≡ getD d k (pos 0)
+read-at d k h = toZ-ofZ w32 _ (sfits-of h)
 
 pub five-same : (ws : List ℕ) (D : ℕ → ℤ) {a b c d e : ℤ} → a ≡ D 0 → b ≡ D 1 → c ≡ D 2 → d ≡ D 3 → e ≡ D 4
     → fiveSum ws (λ k. getD (a ∷ b ∷ c ∷ d ∷ e ∷ []) k (pos 0)) ≡ fiveSum ws D

@@ -30,6 +30,10 @@ pub any-smoothing : (w h layout c d a n : ℕ) (planes : Planes) (mosaic : ℕ)
 unfolding mosaicNumber
 any-smoothing w h layout c d a n planes mosaic = (refl, refl)
 
+pub back-any-smoothing : (w h layout c d a n : ℕ) {planes : Planes} {readings : List ℕ} → ComesBack (smoothed w h layout c) a n planes readings → ComesBack (smoothed w h layout d) a n planes readings
+unfolding mosaicNumber
+back-any-smoothing w h layout c d a n b = record { camera = b .camera; back = b .back }
+
 module _ (f : Frame) (a n : ℕ) where
   -- every reading that a call delivers is at most 4095
   pub mosaic-range : (planes : Planes) {lent after : List ℕ} {answer : ℕ} → MosaicPromise f a n planes lent answer after → answer ≡ 0 → AllAtMost 4095 after

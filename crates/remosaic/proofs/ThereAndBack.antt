@@ -18,10 +18,10 @@ use Rattle.bayer.specs.Planes.{Planes}
 use Rattle.demosaic.proofs.PlaneRowsLaws.{plane-length, plane-at}
 use Rattle.demosaic.proofs.ObservedSample.{observed-sample}
 use Rattle.strip.specs.Strip.{asked, Promise}
-use Rattle.strip.specs.Demand.{StripCall, CalledAll, CoveredBy, Demanded}
+use Rattle.strip.specs.Demand.{StripCall, OfMosaic, CalledAll, CoveredBy, Kept}
 use Rattle.strip.proofs.StripLaws.{Fits, fits, RowRead, row-read}
 use Rattle.strip.proofs.Demand2.{demand-2}
-use Rattle.strip.proofs.Demand3.{demand-3, covered-row}
+use Rattle.strip.proofs.Demand3.{kept, covered-row}
 use Rattle.remosaic.specs.MosaicBack.{observed, ComesBack}
 use Rattle.remosaic.specs.Rows.{RowsLent}
 use Rattle.remosaic.proofs.MosaicLaws.{comes-back}
@@ -67,10 +67,10 @@ module _ (f : Frame) (readings : List ℕ) where
           let z : a + i - 0 ≡ a + i = omega arith in
           ap (λ l. getD l (i * W + j) 0) (demand-2 f readings a n p e k) ∙ plane-at f 0 readings a n k i j h g ∙ (rw z at (observed-sample f 0 readings (a + i) j (omega (arith, w .rows)) g))
 
-  -- after any list of strip calls
-  module _ (l : List StripCall) (p q : Planes) (lengths : (k : Colour) → length (p k) ≡ W * f .height) (called : CalledAll f readings l p q) where
-    d : Demanded f readings l p q
-    d = demand-3 f readings l p q lengths called
+  -- after any list of strip calls, by any smoothing
+  module _ (l : List StripCall) (p q : Planes) (lengths : (k : Colour) → length (p k) ≡ W * f .height) (called : CalledAll (OfMosaic f readings) l p q) where
+    d : Kept f readings l p q
+    d = kept f readings l p q lengths called
 
     -- the planes' rows a to a + n − 1, where all of them are covered, give these rows of the frame back. Nothing is asked of readings that no call has read
     pub rows-back : (a n : ℕ) → 0 < n → ((i : ℕ) → a ≤ i → i < a + n → CoveredBy l i) → (planes : Planes) → ((k : Colour) → planes k ≡ part (a * W) (n * W) (q k))

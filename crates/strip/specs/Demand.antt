@@ -9,6 +9,7 @@ use Rattle.lists.specs.Part.{part, put}
 use Rattle.bayer.specs.declared.colour.Colour.{Colour}
 use Rattle.bayer.specs.declared.colour.Colour.the-variants.{Red, Green, Blue}
 use Rattle.bayer.specs.declared.frame.Frame.{Frame}
+use Rattle.bayer.specs.Frame.{smoothed}
 use Rattle.bayer.specs.Colour.{colourAt}
 use Rattle.bayer.specs.Piece.{pieceOf}
 use Rattle.bayer.specs.Planes.{Planes}
@@ -27,15 +28,20 @@ numberOf c = stripNumber (c .asked) (c .size Red) (c .size Green) (c .size Blue)
 abbrev pub Accepted : StripCall → Type 0
 Accepted c = numberOf c ≡ 0
 
--- of an accepted call: it names the frame f, and so f's smoothing too, brings the rows of its readings, and is lent its own rows of each plane
-pub record OfFrame (f : Frame) (readings : List ℕ) (c : StripCall) : Type 0 where
-  pub frame : c .asked .frame ≡ f
+-- of an accepted call: it names f's width, height and layout, brings the rows of its readings, and is lent its own rows of each plane
+pub record OfMosaic (f : Frame) (readings : List ℕ) (c : StripCall) : Type 0 where
+  pub frame : c .asked .frame ≡ smoothed (f .width) (f .height) (f .layout) (c .asked .frame .smoothing)
   pub piece : c .asked .piece ≡ pieceOf (f .width) (f .height) (c .asked .first) (c .asked .count) readings
   pub rows : (k : Colour) → c .from k ≡ c .asked .first * f .width
 
+-- and names f's smoothing
+pub record OfFrame (f : Frame) (readings : List ℕ) (c : StripCall) : Type 0 where
+  pub mosaic : OfMosaic f readings c
+  pub smoothing : c .asked .frame .smoothing ≡ f .smoothing
+
 -- a call finds the planes p and leaves q. Nothing but its contract is known of it, and the premise is asked of accepted calls only
-pub record Called (f : Frame) (readings : List ℕ) (c : StripCall) (p q : Planes) : Type 0 where
-  pub premise : Accepted c → OfFrame f readings c
+pub record Called (Premise : StripCall → Type 0) (c : StripCall) (p q : Planes) : Type 0 where
+  pub premise : Accepted c → Premise c
   pub inside : (k : Colour) → c .from k + c .size k ≤ length (p k)
   pub answer : ℕ
   pub after : Planes
@@ -43,9 +49,9 @@ pub record Called (f : Frame) (readings : List ℕ) (c : StripCall) (p q : Plane
   pub rest : (k : Colour) → q k ≡ put (c .from k) (after k) (p k)
 
 -- a list of calls, each of which finds what the one before it left
-abbrev pub CalledAll : Frame → (readings : List ℕ) → List StripCall → (p q : Planes) → Type 0
-CalledAll f readings [] p q = (k : Colour) → q k ≡ p k
-CalledAll f readings (c ∷ l) p q = (m : Planes) × Called f readings c p m × CalledAll f readings l m q
+abbrev pub CalledAll : (Premise : StripCall → Type 0) → List StripCall → (p q : Planes) → Type 0
+CalledAll Premise [] p q = (k : Colour) → q k ≡ p k
+CalledAll Premise (c ∷ l) p q = (m : Planes) × Called Premise c p m × CalledAll Premise l m q
 
 -- an accepted call of the list covers row i
 abbrev pub CoveredBy : List StripCall → (i : ℕ) → Type 0
@@ -56,15 +62,19 @@ CoveredBy (c ∷ l) i = (Accepted c × (c .asked .first ≤ i) × (i < c .asked 
 abbrev pub NearExact : Frame → (readings : List ℕ) → List StripCall → (q : Planes) (k : Colour) (hundredths : ℕ) → Type 0
 NearExact f readings l q k hundredths = (i j : ℕ) → CoveredBy l i → j < f .width → Within (natural (getD (q k) (i * f .width + j) 0)) (exactSample f 0 readings k i j) hundredths 100
 
--- DEMAND 3, of the planes p before the list and q after it
-pub record Demanded (f : Frame) (readings : List ℕ) (l : List StripCall) (p q : Planes) : Type 0 where
-  -- each plane is within its printed hundredths
-  pub near : (k : Colour) → NearExact f readings l q k (printedError k)
+-- what holds whatever the calls' smoothings are, of the planes p before the list and q after it
+pub record Kept (f : Frame) (readings : List ℕ) (l : List StripCall) (p q : Planes) : Type 0 where
   -- in a covered row the observed sample is 16 times the reading
   pub observed : (i j : ℕ) → CoveredBy l i → j < f .width → getD (q (colourAt (f .layout) i j)) (i * f .width + j) 0 ≡ 16 * getD readings (i * f .width + j) 0
   -- every other row is as before
   pub others : (k : Colour) (i j : ℕ) → ¬ CoveredBy l i → j < f .width → getD (q k) (i * f .width + j) 0 ≡ getD (p k) (i * f .width + j) 0
   pub lengths : (k : Colour) → length (q k) ≡ f .width * f .height
+
+-- DEMAND 3, of calls that name one frame, and so one smoothing
+pub record Demanded (f : Frame) (readings : List ℕ) (l : List StripCall) (p q : Planes) : Type 0 where
+  -- each plane is within its printed hundredths
+  pub near : (k : Colour) → NearExact f readings l q k (printedError k)
+  pub kept : Kept f readings l p q
 
 -- the printed error as users cite it
 pub record Cited (f : Frame) (readings : List ℕ) (l : List StripCall) (q : Planes) : Type 0 where

@@ -13,7 +13,7 @@ use Rattle.bayer.proofs.ConditionLaws.{readings-pass}
 use Rattle.plane_text.specs.Text.{refusalLine, printed}
 use Rattle.plane_text.proofs.LineLaws.{refused-line}
 use Rattle.frame_text.specs.FrameText.{frameText, wholeNumber}
-use Rattle.frame_text.proofs.FrameTextLaws.{even-number}
+use Rattle.frame_text.proofs.FrameTextLaws.{number-evenly}
 use Rattle.test_frames.specs.TestFrame.{testFrame}
 use Rattle.test_frames.proofs.FrameLaws.{readings-range}
 use Rattle.test_bytes.specs.TestBytes.{frameOf, readings, largeCases, namedCases, bytesNumber, output}
@@ -26,7 +26,7 @@ named-fits f e =
 
 -- and a strip call over it is accepted, whatever the seed
 pub strip-accepts : (f : Frame) (seed : ℕ) → firstOf (namedCases f) ≡ 0 → f .smoothing ≡ 0 → wholeNumber f (testFrame seed (f .width) (f .height)) ≡ 0
-strip-accepts f seed e z = even-number f (testFrame seed (f .width) (f .height)) z ∙ on-append (frameCases f) (rangeCases _) (off-append (frameCases f) (largeCases f) e .0) (readings-pass _ (readings-range seed (f .width * f .height)))
+strip-accepts f seed e z = number-evenly f (testFrame seed (f .width) (f .height)) z ∙ on-append (frameCases f) (rangeCases _) (off-append (frameCases f) (largeCases f) e .0) (readings-pass _ (readings-range seed (f .width * f .height)))
 
 pub not-nine : (bytes : List ℕ) → (length bytes ≡ 9 → ⊥) → output bytes ≡ refusalLine 8
 unfolding output frameText printed bytesNumber firstOf

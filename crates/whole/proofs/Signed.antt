@@ -16,7 +16,7 @@ use borrow.Author.Tests.{ltb-true}
 use lib.Dec.{T, ltb, ltb→lt}
 use lib.Signed.{mag, mag-shr, shrZ, ltZ, nonNeg}
 use lib.IntN.{ℤ, pos, negsuc, natAbs, _+ℤ_, _-ℤ_, _*ℤ_}
-use mir.Syntax.{Width, w32, w64}
+use mir.Syntax.{Width}
 use mir.Val.{Fits, SFits, hbits, ofZ, toZ}
 use mir.ValLaws.{toZ-pos, toZ-ofZ}
 use Rattle.whole.specs.Floor.{floorDiv}

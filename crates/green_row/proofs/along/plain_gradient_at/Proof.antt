@@ -1,7 +1,7 @@
 -- `green_row::along::plain_gradient_at` meets its contract. Assumes nothing.
 use Prim.Native.Nat.{_+_, _*_}
 use native.Mathlib.Nat.{le-trans, le-of-eq}
-use mathlib.Core.Path.{refl, ap, ap₂, _∙_}
+use mathlib.Core.Path.{ap, ap₂, _∙_}
 use lib.IntN.{natAbs}
 use Rattle.gbtf.specs.Difference.{plainGradient}
 use Rattle.green_row.proofs.ReadLaws.{read-at}
@@ -14,8 +14,8 @@ plain-gradient-requires c κs =
     let s = c .before .before in
     let a = s .args in
     let d = a .d .now in (
-      le-trans (le-of-eq (ap natAbs (read-at d (a .k) refl (c .before .plain-gradient-arg .given)))) (s .pre .1 (a .k)),
-      le-trans (le-of-eq (ap natAbs (read-at d (a .k + 2 * a .step) refl (c .plain-gradient-arg2 .given)))) (s .pre .1 (a .k + 2 * a .step)),
+      le-trans (le-of-eq (ap natAbs (read-at d (a .k) (c .before .plain-gradient-arg .given)))) (s .pre .1 (a .k)),
+      le-trans (le-of-eq (ap natAbs (read-at d (a .k + 2 * a .step) (c .plain-gradient-arg2 .given)))) (s .pre .1 (a .k + 2 * a .step)),
     )
 
 returns : tie.Need-returns
@@ -23,7 +23,7 @@ returns c =
     let e = c .before in
     let a = e .before .before .args in
     let d = a .d .now in (
-      c .plain-gradient .ensures .0 ∙ ap₂ plainGradient (read-at d (a .k) refl (e .before .plain-gradient-arg .given)) (read-at d (a .k + 2 * a .step) refl (e .plain-gradient-arg2 .given)),
+      c .plain-gradient .ensures .0 ∙ ap₂ plainGradient (read-at d (a .k) (e .before .plain-gradient-arg .given)) (read-at d (a .k + 2 * a .step) (e .plain-gradient-arg2 .given)),
       c .plain-gradient .ensures .1,
     )
 

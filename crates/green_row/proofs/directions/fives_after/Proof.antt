@@ -5,7 +5,7 @@ use borrow.Author.Needs.{needs}
 use Rattle.lists.proofs.TableLaws.{table-same}
 use Rattle.gbtf.specs.Direction.{fiveSum}
 use Rattle.gbtf.specs.Weights.{weightsOf}
-use Rattle.gbtf.proofs.WeightLaws.{not-even}
+use Rattle.gbtf.proofs.WeightLaws.{tapered-unless-0}
 use Rattle.green_row.specs.Directions.{after}
 use Rattle.green_row.proofs.directions.fives_after.Statement.{statement}
 use Rattle.green_row.proofs.directions.fives_after.Tie as tie
@@ -42,7 +42,7 @@ returns-2 c =
     let w = f .before .before in
     let t = w .before in
     let a = t .before .args in
-    f .fives2 .ensures ∙ table-same _ _ _ (λ k _. ap (λ ws. fiveSum ws (after (a .step) (a .d .now) (a .at + k))) (w .weights-of2 .ensures .0 ∙ sym (not-even _ (t .if1 .left))))
+    f .fives2 .ensures ∙ table-same _ _ _ (λ k _. ap (λ ws. fiveSum ws (after (a .step) (a .d .now) (a .at + k))) (w .weights-of2 .ensures .0 ∙ sym (tapered-unless-0 _ (t .if1 .left))))
 
 pub fives-after-spec : {M : Type 1} → statement M
 fives-after-spec =

@@ -5,7 +5,7 @@ use borrow.Author.Needs.{needs}
 use lib.ListN.{length}
 use Rattle.lists.proofs.TableLaws.{table-same}
 use Rattle.gbtf.specs.Weights.{weightsOf}
-use Rattle.gbtf.proofs.WeightLaws.{not-even}
+use Rattle.gbtf.proofs.WeightLaws.{tapered-unless-0}
 use Rattle.green_row.specs.Directions.{reversed}
 use Rattle.green_row.proofs.DirectionLaws.{five-reversed}
 use Rattle.green_row.proofs.directions.fives_before.Statement.{statement}
@@ -52,7 +52,7 @@ returns-2 c =
     let w = r .before in
     let t = w .before in
     let a = t .before .args in
-    let back = r .reversed2 .ensures ∙ ap reversed (w .weights-of2 .ensures .0 ∙ sym (not-even _ (t .if1 .left))) in
+    let back = r .reversed2 .ensures ∙ ap reversed (w .weights-of2 .ensures .0 ∙ sym (tapered-unless-0 _ (t .if1 .left))) in
     f .fives2 .ensures ∙ table-same _ _ (length (a .out .now)) (λ k _. five-reversed (weightsOf (a .smoothing)) (a .step) (a .d .now) _ _ back (omega arith))
 
 pub fives-before-spec : {M : Type 1} → statement M

@@ -1,5 +1,5 @@
 -- `green_row::sums::narrow` meets its contract: a difference fits 16 bits. Assumes nothing.
-use mathlib.Core.Path.{_≡_, refl, _∙_}
+use mathlib.Core.Path.{_≡_, _∙_}
 use lib.Dec.{lit<}
 use lib.IntN.{pos}
 use lib.ListN.{getD}
@@ -14,7 +14,7 @@ use borrow.Author.Needs.{needs}
 
 -- what is read is what stands there
 read : (c : tie.After-result) → let a = c .before .args in toZ w32 (ofZ w32 (getD (a .d .now) (a .p) (pos 0))) ≡ getD (a .d .now) (a .p) (pos 0)
-read c = read-at (c .before .args .d .now) (c .before .args .p) refl (c .result .given)
+read c = read-at (c .before .args .d .now) (c .before .args .p) (c .result .given)
 
 fits : (c : tie.After-result) → let a = c .before .args in SFits w16 (toZ w32 (ofZ w32 (getD (a .d .now) (a .p) (pos 0))))
 fits c = let z = getD (c .before .args .d .now) (c .before .args .p) (pos 0) in rw (read c) (fits-within z (c .before .pre .1 _) (lit< tt))
