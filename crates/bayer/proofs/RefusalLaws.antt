@@ -5,7 +5,8 @@ use mathlib.Core.Bool.{Bool, true, false, cond, true≢false}
 use mathlib.Core.List.{List, [], _∷_, _++_}
 use native.Mathlib.Omega.{arith}
 use Rattle.lists.specs.Every.{Every}
-use Rattle.bayer.specs.Refusal.{Refusal, sizeOutOfRange, unknownLayout, rowsOutsideFrame, wrongPieceLength, wrongPlaneLength, readingOutOfRange, rowMissing, malformedFile, notCameraPlanes, unknownSmoothing, number, Case, firstOf, heldAfter, Delivers}
+use Rattle.bayer.specs.Refusal.{Refusal, sizeOutOfRange, unknownLayout, rowsOutsideFrame, wrongPieceLength, wrongPlaneLength, readingOutOfRange, rowMissing, malformedFile, notCameraPlanes, unknownSmoothing, number}
+use Rattle.bayer.specs.Refusal.{Case, firstOf, heldAfter, Delivers}
 
 pub number-positive : (r : Refusal) → 0 < number r
 number-positive sizeOutOfRange = omega arith
