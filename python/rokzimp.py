@@ -217,9 +217,9 @@ def _in_threads(work, items, threads):
 
 def whole_frame(width, height, layout, mosaic, red=None, green=None, blue=None, strip_height=64, threads=1, smoothing=None):
     """Fills three planes of height * width samples from the whole mosaic, in strips of strip_height rows (the last may be lower), all
-    by one smoothing, as in `strip`; 1 where none is named. Planes that are not lent are made, as array('H'). Returns the three. Everything is tested
-    before the first strip is filled: a refusal is that of one strip of all rows. With more than one thread the strips are filled side
-    by side, and the planes are the same; with one, in the thread that calls."""
+    by one smoothing, as in `strip`; 1 where none is named. Planes that are not lent are made, as array('H'). Returns the three.
+    Everything is tested before the first strip is filled: a refusal is that of one strip of all rows. With more than one thread the
+    strips are filled side by side, and the planes are the same; with one, in the thread that calls."""
     call, check, named = _calls(smoothing)
     frame = width, height, _ = _size(width), _size(height), _byte(layout)
     strip_height, threads = operator.index(strip_height), operator.index(threads)

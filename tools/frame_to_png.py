@@ -64,7 +64,7 @@ def png(width, height, red, green, blue):
 
 def main(words):
     parser = argparse.ArgumentParser(description=__doc__, formatter_class=argparse.RawDescriptionHelpFormatter)
-    parser.add_argument("--smoothing", type=int, metavar="N", help="0: even weights; 1: by distance, as where none is named")
+    parser.add_argument("--smoothing", type=int, metavar="N", help="0: even weights; 1 (the default): weights that fall with distance")
     parser.add_argument("frame", help="a frame file, or - for standard input")
     parser.add_argument("out", help="what the names of the files begin with")
     parser.add_argument("rows", type=int, nargs="?", default=64, help="of a strip")

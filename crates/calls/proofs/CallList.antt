@@ -1,4 +1,4 @@
--- After any list of calls, each covered row holds what accepted calls put there, and every other row is as before. Assumes nothing.
+-- After any list of calls, each covered row is as it shall be, and every other row is as before. Assumes nothing.
 use mathlib.Core.Path.{_≡_, sym, _∙_, ap, subst}
 use mathlib.Core.Logic.{inl, inr, ⊎-elim, Dec·and}
 use mathlib.Core.List.{List, [], _∷_}

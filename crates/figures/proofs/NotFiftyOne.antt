@@ -1,4 +1,4 @@
--- The figure 53 cannot become 51: a frame whose green is more than 51 hundredths away from the exact reconstruction, by computation; and a strip call delivers it. Assumes nothing.
+-- The figure 53 cannot become 51: a frame whose green, with smoothing 0, is more than 51 hundredths away from the exact reconstruction, by computation; and a strip call delivers it. Assumes nothing.
 use mathlib.Core.Path.{_≡_, refl, _∙_, ap, subst}
 use Prim.Native.Nat.{ℕ}
 use lib.Dec.{le→leb, lit≤}

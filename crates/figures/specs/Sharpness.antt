@@ -1,4 +1,4 @@
--- A frame, found by search, whose green at row 2 and column 2 is more than 51 hundredths away from the exact green. proofs/NotFiftyOne.antt has the theorem. Assumes nothing.
+-- A frame, found by search, whose green at row 2 and column 2, with smoothing 0, is more than 51 hundredths away from the exact green. proofs/NotFiftyOne.antt has the theorem. Assumes nothing.
 use Prim.Native.Nat.{ℕ}
 use mathlib.Core.List.{List, [], _∷_}
 

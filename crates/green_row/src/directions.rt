@@ -18,7 +18,7 @@ fn reversed(w: [u8; 5]) -> [u8; 5]
     [w[4], w[3], w[2], w[1], w[0]]
 }
 
-// The five-sums of the places from `at` on, with the weights of a smoothing, each of its place and those after it, `step` apart. In either call the weights
+// The five-sums of the places from `at` on, with the weights of a smoothing, each of its place and those after it, `step` apart. In both branches the weights
 // are constants: the compiler then handles several places at a time by one multiplication for each weight.
 fn fives_after(smoothing: u8, d: &[i32], step: usize, at: usize, out: &mut [i32])
     requires { ⌜ (at + length (now out) + 4 * step ≤ length (now d)) × (AllWithin mostDifference (now d)) ⌝ }

@@ -72,23 +72,23 @@ called c p {answer} {red} {green} {blue} premise inside promise = record {
 }
 
 module _ (f : Frame) (readings : List ℕ) where
-  -- ---- calls of which the accepted ones read this mosaic, by any smoothing
+  -- the frame that a call names, and what it asks for
+  abbrev named : StripCall → Frame
+  named c = smoothed (f .width) (f .height) (f .layout) (c .asked .frame .smoothing)
+
+  abbrev ours : StripCall → Asked
+  ours c = asked (named c) (c .asked .first) (c .asked .count) (pieceOf (f .width) (f .height) (c .asked .first) (c .asked .count) readings)
+
+  asks : (c : StripCall) → OfMosaic f readings c → c .asked ≡ ours c
+  asks c o = ap₂ (λ g x. asked g (c .asked .first) (c .asked .count) x) (o .frame) (o .piece)
+
+  -- ---- calls of which the accepted ones read this mosaic, whatever smoothings they name
   module _ (Premise : StripCall → Type 0) (of-mosaic : (c : StripCall) → Premise c → OfMosaic f readings c) where
     lent-length : (c : StripCall) {p q : Planes} → Called Premise c p q → (k : Colour) → length (lent c p k) ≡ c .size k
     lent-length c {p} d k = length-part (c .from k) (c .size k) (p k) (d .inside k)
 
     answers : (c : StripCall) {p q : Planes} (d : Called Premise c p q) → d .answer ≡ numberOf c
     answers c d = d .promise .number ∙ rw (lent-length c d Red, lent-length c d Green, lent-length c d Blue)
-
-    -- the frame that a call names, and what it asks for
-    abbrev named : StripCall → Frame
-    named c = smoothed (f .width) (f .height) (f .layout) (c .asked .frame .smoothing)
-
-    abbrev ours : StripCall → Asked
-    ours c = asked (named c) (c .asked .first) (c .asked .count) (pieceOf (f .width) (f .height) (c .asked .first) (c .asked .count) readings)
-
-    asks : (c : StripCall) → OfMosaic f readings c → c .asked ≡ ours c
-    asks c o = ap₂ (λ g x. asked g (c .asked .first) (c .asked .count) x) (o .frame) (o .piece)
 
     fits-ours : (c : StripCall) → Accepted c → Premise c → Fits (ours c) (c .size Red) (c .size Green) (c .size Blue)
     fits-ours c e o = fits (ours c) _ _ _ (rw (← asks c (of-mosaic c o)) e)
@@ -136,16 +136,15 @@ module _ (f : Frame) (readings : List ℕ) where
       after : (l : List StripCall) (p q : Planes) → ((k : Colour) → length (p k) ≡ f .width * f .height) → CalledAll Premise l p q → After (f .width) (f .height) Holds (map callOf l) p q
       after l p q e h = after-calls (f .width) (f .height) Holds (map callOf l) p q e (runs l p q h)
 
-  -- ---- by any smoothing: observed samples, and the other rows
+  -- ---- by any smoothings: observed samples, and the other rows
 
   abbrev Observed : Colour → (i j s : ℕ) → Type 0
   Observed k i j s = colourAt (f .layout) i j ≡ k → s ≡ 16 * getD readings (i * f .width + j) 0
 
-  observed-holds : (c : StripCall) → OfMosaic f readings c → (k : Colour) (i j : ℕ) → i < f .height → j < f .width → Observed k i j (sample (smoothed (f .width) (f .height) (f .layout) (c .asked .frame .smoothing)) 0 readings k i j)
+  observed-holds : (c : StripCall) → OfMosaic f readings c → (k : Colour) (i j : ℕ) → i < f .height → j < f .width → Observed k i j (sample (named c) 0 readings k i j)
   observed-holds c o k i j hi hj e =
-      let g = smoothed (f .width) (f .height) (f .layout) (c .asked .frame .smoothing) in
       let z : i - 0 ≡ i = omega arith in
-      ap (λ x. sample g 0 readings x i j) (sym e) ∙ (rw z at (observed-sample g 0 readings i j hi hj))
+      ap (λ x. sample (named c) 0 readings x i j) (sym e) ∙ (rw z at (observed-sample (named c) 0 readings i j hi hj))
 
   pub covered-row : (l : List StripCall) (p q : Planes) → CalledAll (OfMosaic f readings) l p q → (i : ℕ) → CoveredBy l i → RowRead f readings i
   covered-row = row-known (OfMosaic f readings) (λ c o. o)
@@ -162,7 +161,7 @@ module _ (f : Frame) (readings : List ℕ) where
 
   -- ---- by one smoothing
 
-  same-rule : (c : StripCall) → OfFrame f readings c → (k : Colour) (i j : ℕ) → sample (smoothed (f .width) (f .height) (f .layout) (c .asked .frame .smoothing)) 0 readings k i j ≡ sample f 0 readings k i j
+  same-rule : (c : StripCall) → OfFrame f readings c → (k : Colour) (i j : ℕ) → sample (named c) 0 readings k i j ≡ sample f 0 readings k i j
   same-rule c o k i j = ap (λ s. sample (smoothed (f .width) (f .height) (f .layout) s) 0 readings k i j) (o .smoothing)
 
   -- in a covered row the rule's samples stand
@@ -193,7 +192,7 @@ module _ (f : Frame) (readings : List ℕ) where
   pub cited : {l : List StripCall} {p q : Planes} → Demanded f readings l p q → Cited f readings l q
   cited d = record { red = d .near Red; green = d .near Green; blue = d .near Blue }
 
-  -- NO SEAMS: two lists of calls, however they cut the frame and whatever the planes held before, leave the same samples in every row that both cover
+  -- NO SEAMS: two lists of calls of one smoothing, however they cut the frame and whatever the planes held before, leave the same samples in every row that both cover
   pub no-seams : (l l′ : List StripCall) (p p′ q q′ : Planes) → ((k : Colour) → length (p k) ≡ f .width * f .height) → ((k : Colour) → length (p′ k) ≡ f .width * f .height)
       → CalledAll (OfFrame f readings) l p q → CalledAll (OfFrame f readings) l′ p′ q′ → (k : Colour) (i j : ℕ) → CoveredBy l i → CoveredBy l′ i → j < f .width → getD (q k) (i * f .width + j) 0 ≡ getD (q′ k) (i * f .width + j) 0
   no-seams l l′ p p′ q q′ e e′ h h′ k i j v v′ hj = covered l p q e h k i j v hj ∙ sym (covered l′ p′ q′ e′ h′ k i j v′ hj)

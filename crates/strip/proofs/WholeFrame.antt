@@ -1,5 +1,5 @@
 -- A strip call over a whole frame: tests 3, 4 and 5 are passed, and it delivers the frame's planes. Assumes nothing.
-use Prim.Native.Nat.{ℕ, _+_, _*_}
+use Prim.Native.Nat.{ℕ, _*_}
 use mathlib.Core.Path.{_≡_, ap, _∙_}
 use mathlib.Core.Bool.{false, not}
 use mathlib.Core.List.{List, _++_}

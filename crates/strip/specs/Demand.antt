@@ -28,18 +28,18 @@ numberOf c = stripNumber (c .asked) (c .size Red) (c .size Green) (c .size Blue)
 abbrev pub Accepted : StripCall → Type 0
 Accepted c = numberOf c ≡ 0
 
--- of an accepted call: it names f's width, height and layout, brings the rows of its readings, and is lent its own rows of each plane
+-- of an accepted call: it names f's width, height and layout, whatever its smoothing, brings its rows of `readings`, and is lent its own rows of each plane
 pub record OfMosaic (f : Frame) (readings : List ℕ) (c : StripCall) : Type 0 where
   pub frame : c .asked .frame ≡ smoothed (f .width) (f .height) (f .layout) (c .asked .frame .smoothing)
   pub piece : c .asked .piece ≡ pieceOf (f .width) (f .height) (c .asked .first) (c .asked .count) readings
   pub rows : (k : Colour) → c .from k ≡ c .asked .first * f .width
 
--- and names f's smoothing
+-- of an accepted call of demand 3: it names f's smoothing too
 pub record OfFrame (f : Frame) (readings : List ℕ) (c : StripCall) : Type 0 where
   pub mosaic : OfMosaic f readings c
   pub smoothing : c .asked .frame .smoothing ≡ f .smoothing
 
--- a call finds the planes p and leaves q. Nothing but its contract is known of it, and the premise is asked of accepted calls only
+-- a call finds the planes p and leaves q. Nothing but its contract is known of it, and the premise is asked of accepted calls only: `OfFrame f readings` for demand 3, `OfMosaic f readings` where smoothings may differ
 pub record Called (Premise : StripCall → Type 0) (c : StripCall) (p q : Planes) : Type 0 where
   pub premise : Accepted c → Premise c
   pub inside : (k : Colour) → c .from k + c .size k ≤ length (p k)
@@ -70,7 +70,7 @@ pub record Kept (f : Frame) (readings : List ℕ) (l : List StripCall) (p q : Pl
   pub others : (k : Colour) (i j : ℕ) → ¬ CoveredBy l i → j < f .width → getD (q k) (i * f .width + j) 0 ≡ getD (p k) (i * f .width + j) 0
   pub lengths : (k : Colour) → length (q k) ≡ f .width * f .height
 
--- DEMAND 3, of calls that name one frame, and so one smoothing
+-- DEMAND 3, of lists whose accepted calls name one frame, and so one smoothing
 pub record Demanded (f : Frame) (readings : List ℕ) (l : List StripCall) (p q : Planes) : Type 0 where
   -- each plane is within its printed hundredths
   pub near : (k : Colour) → NearExact f readings l q k (printedError k)
