@@ -2,7 +2,7 @@
 use Prim.Native.Nat.{ℕ}
 use Rattle.bayer.specs.declared.frame.Frame.{Frame}
 
--- with a smoothing that is named: 0 or 1 (A.5); strip calls refuse others
+-- with a smoothing that is named, document 02's choice (A.5): 0 or 1; strip calls refuse others
 abbrev pub smoothed : (width height layout smoothing : ℕ) → Frame
 smoothed width height layout smoothing = record { width = width; height = height; layout = layout; smoothing = smoothing }
 

@@ -86,8 +86,8 @@ pub extern "C" fn rokzimp_strip_smoothed_check(
 ) -> u32
     ensures { λ r. ⌜ r ≡ stripNumber (asked (smoothed width height layout smoothing) a n (now (piece .entry))) red green blue ⌝ }
 {
-    let named = Frame::smoothed(width, height, layout, smoothing);
-    strip_check(named, a, n, piece, red, green, blue)
+    let frame = Frame::smoothed(width, height, layout, smoothing);
+    strip_check(frame, a, n, piece, red, green, blue)
 }
 
 #[no_mangle]

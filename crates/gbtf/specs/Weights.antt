@@ -7,11 +7,11 @@ use Rattle.gbtf.specs.Direction.{total}
 abbrev pub scale : ℕ
 scale = 16777216
 
--- smoothing 0: even, as in document 01
+-- smoothing 0 (document 02's choice 0): even, as in document 01
 abbrev pub evenWeights : List ℕ
 evenWeights = 1 ∷ 1 ∷ 1 ∷ 1 ∷ 1 ∷ []
 
--- smoothing 1: in hundredths, from the pixel outward (source 000, equation 31)
+-- smoothing 1 (choice 1): in hundredths, from the pixel outward (source 000, equation 31)
 abbrev pub taperedWeights : List ℕ
 taperedWeights = 26 ∷ 24 ∷ 21 ∷ 17 ∷ 12 ∷ []
 

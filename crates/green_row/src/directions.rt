@@ -19,7 +19,7 @@ fn reversed(w: [u8; 5]) -> [u8; 5]
 }
 
 // The five-sums of the places from `at` on, with the weights of a smoothing, each of its place and those after it, `step` apart. In both branches the weights
-// are constants: the compiler then handles several places at a time by one multiplication for each weight.
+// are constants, by which the compiler multiplies several places at once.
 fn fives_after(smoothing: u8, d: &[i32], step: usize, at: usize, out: &mut [i32])
     requires { ⌜ (at + length (now out) + 4 * step ≤ length (now d)) × (AllWithin mostDifference (now d)) ⌝ }
     ensures { λ _. ⌜ now (out .exit) ≡ table (λ k. fiveSum (weightsOf smoothing) (after step (now (d .entry)) (at + k))) (length (now (out .entry))) ⌝ }
