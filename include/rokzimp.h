@@ -16,7 +16,7 @@
  * 810 KB of stack, whatever the size of the frame: a thread that calls it needs a stack of 1 MB at the least. The others take
  * next to none.
  *
- * A frame has `width` columns and `height` rows, each 8 to 4096. Rows and columns count from 0. Readings are 0 to 4095. The
+ * A frame has `width` columns and `height` rows, each 2 to 4096. Rows and columns count from 0. Readings are 0 to 4095. The
  * layout gives the colours of an even and of an odd row: 0 = RG GB, 1 = GR BG, 2 = GB RG, 3 = BG GR. It is a byte here: C
  * cuts a wider number to its low byte without a word, so test a wider one before the call. The smoothing is a byte too: it says
  * how a strip weights the five differences of a direction, from the pixel outward: 0 = evenly, 1 = 26, 24, 21, 17 and 12 hundredths.
@@ -37,7 +37,7 @@ extern "C" {
 
 enum {
     ROKZIMP_OK = 0,
-    ROKZIMP_OFF_SIZE = 1,       /* "off size": width or height outside 8 to 4096 */
+    ROKZIMP_OFF_SIZE = 1,       /* "off size": width or height outside 2 to 4096 */
     ROKZIMP_UNKNOWN_LAYOUT = 2, /* "unknown layout": layout above 3 */
     ROKZIMP_OFF_THE_FRAME = 3,  /* "off the frame": rows is 0, or first_row + rows, not wrapped, is above height; test row:
                                    row >= height */

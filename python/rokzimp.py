@@ -20,7 +20,7 @@ import sys
 import threading
 
 WORDS = {
-    1: ("off size", "width or height outside 8 to 4096"),
+    1: ("off size", "width or height outside 2 to 4096"),
     2: ("unknown layout", "layout above 3"),
     3: ("off the frame", "no rows, or a row past the frame"),
     4: ("short halo", "the piece of the mosaic has not the exact length"),

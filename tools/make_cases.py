@@ -14,6 +14,10 @@ S W H layout  entry choice method  a n  P R G B  width seed base down across odd
     0, 256 and at the end 255 0 0, and the program does not read them. Entry 1 will be the preview's; and where a table is lent it has nb bands:
     band t is number t % given of those given, 6 at the most, with advance (t / given) added to its first row.
     Answer: the number of the call, that of the check, and for each plane sum, checksum, first and last sample.
+C ..
+    Every strip of a frame of at most 9 rows and columns: with the same numbers as by S, of which a, n, P, R, G, B are not read, width is W and first 0. All
+    pieces are of one mosaic, W H readings by the recipe. The strips stand one after the other in the planes, by first row and then by count.
+    Answer: the length of the planes, and for each plane sum, checksum, first and last sample.
 M W H layout a n  R G B M  width seed round  plane at value  plane at value
     The mosaic back from planes. R, G, B and M are the lengths of the planes and of the mosaic that are lent. In plane c (0 red, 1 green, 2 blue) a sample
     whose row and column, by width, have parities p and q is rounded down to a multiple of 16 if bit 4c + 2p + q of round is set; then two samples are set.
@@ -146,6 +150,21 @@ def answer_S(v):
     return [got, num] + [n for q in planes for n in shown(q)]
 
 
+def answer_C(v):
+    (W, H, layout), seed = v[:3], v[13]
+    mosaic = expand_piece(W * H, W, seed, v[14:25], [(v[25], v[26]), (v[27], v[28])], 0)
+    f = r.Frame(W, H, layout, None if v[4] == UNNAMED else v[4])
+    out = [[], [], []]
+    for a in range(H):
+        for n in range(1, H - a + 1):
+            lo, hi = r.strip_rows(H, a, n)
+            planes = [[0] * (n * W) for _ in range(3)]
+            assert r.strip_call(RULES, f, a, n, mosaic[lo * W:hi * W], planes) == 0
+            for strips, plane in zip(out, planes):
+                strips += plane
+    return [len(out[0])] + [n for q in out for n in shown(q)]
+
+
 def back(W, H, layout, a, n, planes, mosaic):
     got = r.mosaic_back(RULES, r.Frame(W, H, layout), a, n, planes, mosaic)
     return [got, got] + shown(mosaic)
@@ -210,7 +229,7 @@ def answer_F(v):
     return [r.stop(16 * v[1] + r.fusion(r.shares(ts, RULES.scale), As, T))]
 
 
-ANSWER = {'S': answer_S, 'M': answer_M, 'B': answer_B, 'J': answer_J, 'W': answer_W, 'L': answer_L, 'V': answer_V, 'Q': answer_Q, 'R': answer_R, 'F': answer_F}
+ANSWER = {'S': answer_S, 'C': answer_C, 'M': answer_M, 'B': answer_B, 'J': answer_J, 'W': answer_W, 'L': answer_L, 'V': answer_V, 'Q': answer_Q, 'R': answer_R, 'F': answer_F}
 
 
 def inward(direction):
@@ -223,6 +242,16 @@ def inward(direction):
             out[direction] = right(self, i, j, choice)[direction]
         return out
     return unittest.mock.patch.object(r.Work, 'five_sums', wrong)
+
+
+# mirrors that are nearly right
+def edge_repeated(p, size):
+    return edge_repeated(-p - 1, size) if p < 0 else edge_repeated(2 * size - 1 - p, size) if p >= size else p
+
+
+def reflected_once(p, size):
+    p = -p if p < 0 else 2 * (size - 1) - p if p >= size else p
+    return min(max(p, 0), size - 1)
 
 
 # ------------------------------------------------------------ cases
@@ -267,6 +296,11 @@ class Maker:
             return Recipe(base=g.choice((0, 4095)), from_=g.randrange(W + H), step=4095, checker=g.randrange(4096), shape=1)
         return Recipe(checker=g.randrange(4096), oddrow=g.randrange(4096), oddcol=g.randrange(4096), amount=g.randrange(50), shape=1)
 
+    def textured(self, W, H):
+        """No two rows or columns alike, and few samples stopped."""
+        g = self.g
+        return Recipe(base=g.randrange(500, 1500), oddrow=g.randrange(400), oddcol=g.randrange(400), amount=g.randrange(200, 1500), shape=g.choice((0, 2)))
+
     def impulses(self, length):
         g, out = self.g, []
         for _ in range(2):
@@ -302,7 +336,7 @@ class Maker:
 
     def size(self, top=40):
         g = self.g
-        return g.choice((LEAST, LEAST + 1, g.randrange(LEAST, LEAST + 12), g.randrange(LEAST, top + 1)))
+        return g.choice((LEAST, g.randrange(LEAST, 10), g.randrange(8, 20), g.randrange(8, top + 1)))
 
     def accepted(self, count):
         self.note('strips of frames of %d to 40 rows and columns, cut anywhere' % LEAST)
@@ -319,12 +353,28 @@ class Maker:
                 for a in range(0, H, n):
                     assert self.strip(W, H, layout, a, min(n, H - a), rec, [], seed, choice=choice)[0] == 0
 
+    def small(self):
+        self.note('every strip of frames of %d to 9 rows and columns' % LEAST)
+        wrongs = edge_repeated, reflected_once
+        told, asked = [0] * len(wrongs), [0] * len(wrongs)          # how many cases would show each wrong mirror, and how many could
+        for W in range(LEAST, 10):
+            for H in range(LEAST, 10):
+                for layout in range(4):
+                    right = self.strip(W, H, layout, 0, H, self.textured(W, H), [], kind='C')
+                    line = list(map(int, self.lines[-1].split()[1:]))
+                    for k, wrong in enumerate(wrongs):
+                        if wrong is edge_repeated or min(W, H) < 8:
+                            asked[k] += 1
+                            with unittest.mock.patch.object(r, 'mirror', wrong):
+                                told[k] += answer_C(line) != right
+        assert all(10 * t > 9 * n for t, n in zip(told, asked)), (told, asked)
+
     def smoothings(self, count):
         g = self.g
         self.note('strips that name either smoothing or none, and 2 and 255; an edge across, so that no direction is like another')
         told = [0] * 5                   # how many cases would show each direction's weights in the other order, and even weights
         for k in range(count):
-            W, H = self.size(24), self.size(24)
+            W, H = g.randrange(8, 25), g.randrange(8, 25)
             rec = Recipe(base=g.randrange(500), down=g.randrange(1, 60), across=g.randrange(1, 60), from_=g.randrange(4, W + H - 4), step=g.randrange(800, 3000),
                          amount=g.randrange(2, 400), shape=g.choice((0, 2)))
             seed, (a, n) = g.randrange(M32), (0, H) if k % 2 else self.cut(H)
@@ -511,7 +561,7 @@ class Maker:
                 if fault == 0: W = g.choice([0, LEAST - 1, 4097] + BIG)
                 if fault == 1: H = g.choice([0, LEAST - 1, 4097] + BIG)
                 if fault == 2: L = g.choice((4, 5, 255))
-                if fault == 3: n = g.choice([0, true[1] - a + 1] + BIG)
+                if fault == 3: n = g.choice([0, true[1] - true[3] + 1] + BIG)
                 if fault == 4: a = g.choice([true[1], 2 ** 64 - true[4]] + BIG)
                 if fault == 5: lengths[g.randrange(4)] += g.choice((1, -1))
                 if fault == 6: puts = [(c, t, g.choice((17, 65521, 65535)))]
@@ -651,6 +701,7 @@ def main():
     m.note('made by tools/make_cases.py %d, which says what each line means' % seed)
     m.figures()
     m.accepted(400)
+    m.small()
     m.cuts()
     m.smoothings(24)
     m.wide_and_tall()

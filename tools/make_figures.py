@@ -7,6 +7,8 @@ The values come from reference/ and from nothing else; the stage is tools/stage.
 direction sums lie about the guard, a part is mild, and a part is wild, so that samples are stopped. Two of them are smoothed evenly,
 one names smoothing 1 and one none. A seed is taken only if the exact table has every kind of place, exact greens at red and at blue
 pixels for either smoothing among them, and if a guard one less or one more would change some green.
+Four more frames are small: 2 by 2, 2 by 3 and 3 by 2, of which every exact value is in the table, and 5 by 4. They are taken only if each
+would have another sample with mirrors that repeat an edge.
 """
 import os
 import random
@@ -17,7 +19,7 @@ from stage import ROOT, RULES, STAGE
 import reference as r
 
 PLANES = 'Red', 'Green', 'Blue'
-LAST = ['₀', '₁', '₂', '₃']
+LAST = '₀₁₂₃₄₅₆₇'
 # by layout: width, height, how far a pixel lies from the quiet side, and where the mild and the wild part start
 FRAMES = (
     (9, 8, lambda i, j: j, 5, 7),
@@ -26,18 +28,15 @@ FRAMES = (
     (8, 8, lambda i, j: 7 - j, 4, 6),
 )
 SMOOTHING = None, 0, 1, 0            # by layout; None: the frame names none
+SMALL = (2, 2, 0, None), (2, 3, 3, 0), (3, 2, 1, 1), (5, 4, 2, 1)      # width, height, layout, smoothing
 LONGEST = 120                        # digits of a fraction
 # what the exact table has to have, by what a value is worked out from and its plane, or by where it was stopped
 KINDS = {(s, k) for s in ('in its row', 'in its column', 'diagonal') for k in (r.R, r.B)} | {('Red', r.G), ('Blue', r.G), ('corner', 0), ('observed', 0)}
 KINDS |= {(s, x) for s in ('stopped', 'stopped green') for x in (0, r.TOP)}
 
 
-def described(layout):
-    """The frame description."""
-    return r.Frame(*FRAMES[layout][:2], layout, SMOOTHING[layout])
-
-
 def readings(g, layout):
+    """Of the frame of a layout, a quiet, a mild and a wild part."""
     width, height, far, mild, wild = FRAMES[layout]
     base = [g.randrange(200, 400) for _ in range(3)]
 
@@ -93,6 +92,11 @@ def places(g, f, exact):
     return {kind: g.choice(best[kind]) for kind in sorted(best)}
 
 
+def every_place(f):
+    """Those that are not observed."""
+    return [(k, i, j) for k in range(3) for i in range(f.H) for j in range(f.W) if site(f, k, i, j) != 'observed']
+
+
 # ------------------------------------------------------------ the files
 def head(what, seed):
     return ['-- %s Made by tools/make_figures.py %d from reference/, stage %s, and from nothing else. Assumes nothing.' % (what, seed, STAGE)]
@@ -111,21 +115,41 @@ def claim(name, kind, value):
     return ['', 'abbrev pub %s : %s' % (name, kind), '%s = %s' % (name, value)]
 
 
-def guard_shows(frames, value):
-    """Whether some green would be another with this guard."""
-    def greens():
-        return [r.whole(RULES, described(layout), frame)[r.G] for layout, frame in enumerate(frames)]
-    wanted = greens()
-    with unittest.mock.patch.object(r, 'guard', lambda s: max(s, value)):
-        return greens() != wanted
+def described(g, seed):
+    """The frame descriptions and readings, by their place in the tables."""
+    frames = [(r.Frame(*FRAMES[layout][:2], layout, SMOOTHING[layout]), readings(g, layout)) for layout in range(4)]
+    small_g = random.Random('small/%d' % seed)
+    return frames + [(r.Frame(*small), [small_g.randrange(1000, 3000) for _ in range(small[0] * small[1])]) for small in SMALL]
+
+
+def shows(what, wrong, f, frame):
+    """Whether the planes of a frame would be others with something wrong in its place."""
+    right = r.whole(RULES, f, frame)
+    with unittest.mock.patch.object(r, what, wrong):
+        return r.whole(RULES, f, frame) != right
+
+
+def edge_repeated(p, size):
+    return edge_repeated(-p - 1, size) if p < 0 else edge_repeated(2 * size - 1 - p, size) if p >= size else p
+
+
+def fitting(frames):
+    """Asserts that the tables would show a wrong guard and wrong mirrors."""
+    for value in 3, 5:
+        assert any(shows('guard', lambda s: max(s, value), *frame) for frame in frames), 'no sample of this seed tells a guard of 4 from one of %d' % value
+    for frame in frames[len(FRAMES):]:
+        assert shows('mirror', edge_repeated, *frame), 'no sample of a small frame tells that an edge is repeated'
+
+
+def named(f):
+    return 'frame %d %d %d' % (f.W, f.H, f.layout) if f.choice is None else 'smoothed %d %d %d %d' % (f.W, f.H, f.layout, f.choice)
 
 
 def make(seed, directory):
     g = random.Random(seed)
-    frames = [readings(g, layout) for layout in range(4)]        # before the places, so that no stage changes them
-    for value in 3, 5:
-        assert guard_shows(frames, value), 'no green of this seed tells a guard of 4 from one of %d' % value
-    planes = head('Frames, one of each layout, and their planes by the whole-number rules. proofs/PlaneTable.antt has the theorem.', seed) + [
+    frames = described(g, seed)          # before the places, so that no stage changes them
+    fitting(frames)
+    planes = head('Frames, one of each layout and four small ones, and their planes by the whole-number rules. proofs/PlaneTable.antt has the theorem.', seed) + [
         'use Prim.Native.Nat.{ℕ}',
         'use mathlib.Core.List.{List, [], _∷_}',
         'use Rattle.bayer.specs.declared.frame.Frame.{Frame}',
@@ -139,21 +163,22 @@ def make(seed, directory):
         'use Rattle.worked_planes.specs.WorkedPlanes.{%s}' % ', '.join('frame%s, readings%s' % (n, n) for n in LAST),
     ]
     kinds, greens = set(), set()
-    for layout, n in enumerate(LAST):
-        f, smoothing = described(layout), SMOOTHING[layout]
-        frame = frames[layout]
-        named = 'frame %d %d %d' % (f.W, f.H, layout) if smoothing is None else 'smoothed %d %d %d %d' % (f.W, f.H, layout, smoothing)
-        planes += claim('frame' + n, 'Frame', named)
+    for n, (f, frame) in zip(LAST, frames):
+        planes += claim('frame' + n, 'Frame', named(f))
         planes += cells(f, 'readings' + n, frame)
         for name, plane in zip(PLANES, r.whole(RULES, f, frame)):
             planes += cells(f, name.lower() + n, plane)
         planes += claim('planes' + n, 'PlanesClaim', 'givesPlanes frame%s readings%s red%s green%s blue%s' % (n, n, n, n, n))
         values = r.exact_planes(RULES, f, frame)
-        chosen = places(g, f, values)
-        kinds.update(chosen)
-        greens.update((smoothing == 0, kind) for kind in chosen if kind in (('Red', r.G), ('Blue', r.G)))
+        if f.W * f.H <= 6:
+            chosen = every_place(f)
+        else:
+            by_kind = places(g, f, values)
+            kinds.update(by_kind)
+            greens.update((f.choice == 0, kind) for kind in by_kind if kind in (('Red', r.G), ('Blue', r.G)))
+            chosen = by_kind.values()
         exact += ['', 'abbrev pub values%s : List Value' % n, 'values%s =' % n] + lines(
-            'exactly %s %d %d %d %d' % (PLANES[k], i, j, x.numerator, x.denominator) for k, i, j in sorted(chosen.values()) for x in [values[k][i * f.W + j]])
+            'exactly %s %d %d %d %d' % (PLANES[k], i, j, x.numerator, x.denominator) for k, i, j in sorted(chosen) for x in [values[k][i * f.W + j]])
         exact += claim('exact' + n, 'ExactClaim', 'givesExact frame%s readings%s values%s' % (n, n, n))
     assert kinds == KINDS, 'the frames of this seed lack %s' % (KINDS - kinds)
     assert len(greens) == 4, 'the frames of this seed lack an exact green of some smoothing'

@@ -24,18 +24,22 @@ def files():
     def some(n, top=4095):
         return [rnd.randint(0, top) for _ in range(n)]
 
-    off = RULES.min_size - 1
+    least = RULES.min_size
+    off = least - 1
     flat = frame_file(8, 8, 0, [100] * 64)
-    # 01's example; accepted frames of each layout, odd and even sizes, extreme readings, and the largest files
+    # 01's example; accepted frames of each layout, odd and even sizes, small ones, extreme readings, and the largest files
     yield flat
     for layout in range(4):
         yield frame_file(8, 8, layout, some(64))
         yield frame_file(9, 11, layout, some(99))
+        yield frame_file(least, least, layout, some(least * least))
+        yield frame_file(least, least + 1, layout, some(least * (least + 1)))
+        yield frame_file(7, 4, layout, some(28))
         yield frame_file(10, 8, layout, [rnd.choice([0, 4095]) for _ in range(80)])
     yield frame_file(8, 8, 0, [4095] * 64)
     yield frame_file(64, 64, 1, some(4096))
-    yield frame_file(8, 512, 2, some(4096))
-    yield frame_file(512, 8, 3, some(4096))
+    yield frame_file(least, 4096 // least, 2, some(4096))
+    yield frame_file(4096 // least, least, 3, some(4096))
     # 8
     yield b''
     yield flat[:9]
@@ -88,10 +92,12 @@ def names():
         yield name(seed(), 8, 8, layout)
         yield name(seed(), 9, 11, layout)
         yield name(seed(), least, 4096 // least, layout)
+        yield name(seed(), least, least, layout)
+        yield name(seed(), 7, least + 1, layout)
     for s in (1, 255, 256, 65536, 2 ** 24, 2 ** 31, 2 ** 32 - 1):
         yield name(s, 10, 9, 1)
     yield name(seed(), 64, 64, 3)
-    yield name(seed(), 512, 8, 2)
+    yield name(seed(), 4096 // least, least, 2)
     yield name(seed(), 63, 65, 0)
     # 8: not nine bytes
     good = name(seed(), 8, 8, 0)
@@ -111,7 +117,7 @@ def names():
         yield name(seed(), 8, 8, layout)
         yield name(seed(), 4096, 8, layout)
     # 8: W x H above 4096
-    for w, h in ((64, 65), (17, 241), (4096, 4096), (4096, 8), (8, 513)):
+    for w, h in ((64, 65), (17, 241), (4096, 4096), (4096, 8), (least, 4096 // least + 1)):
         yield name(seed(), w, h, 3)
 
 
@@ -138,6 +144,7 @@ def one(crate, program, data):
 def main():
     made = [(0, data) for data in files()] + [(1, data) for data in names()]
     among = b''.join(bytes([kind]) + len(data).to_bytes(2, 'big') + data for kind, data in made)
+    assert len(among) <= 65536, 'stdin is longer than the program reads'
     printed = [(reference.program, reference.generator_program)[kind](RULES, data) for kind, data in made]
     write(sys.argv[2] if len(sys.argv) > 2 else os.path.join(ROOT, 'crates', 'planes_cases'), among, ''.join(printed))
     if len(sys.argv) == 2:

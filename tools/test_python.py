@@ -84,7 +84,8 @@ class Test(unittest.TestCase):
     def test_refusals(self):
         mosaic, (red, green, blue) = samples([100] * 64), planes(64)
         whole = (0, 8, mosaic, red, green, blue)
-        self.refused(1, strip, 7, 8, 0, *whole)
+        self.refused(1, strip, 1, 8, 0, *whole)
+        self.refused(1, strip, 8, 1, 0, *whole)
         self.refused(1, strip, 8, 4097, 0, *whole)
         self.refused(1, strip, -8, 8, 0, *whole)
         self.refused(1, strip, 2 ** 64 + 8, 8, 0, *whole)
@@ -110,9 +111,10 @@ class Test(unittest.TestCase):
         strip(8, 8, 0, 0, 8, mosaic, red, green, blue)
 
     def test_sizes(self):
-        for width, height in ((8, 4096), (4096, 8)):
-            whole_frame(width, height, 3, samples([9] * (width * height)))
-        for width, height in ((8, 4097), (4097, 8), (0, 0)):
+        for width, height in ((2, 4096), (4096, 2), (2, 2)):
+            for plane in whole_frame(width, height, 3, samples([9] * (width * height))):
+                self.assertEqual(plane, samples([144] * (width * height)))
+        for width, height in ((2, 4097), (4097, 2), (1, 2), (2, 1), (1, 4096), (4096, 1), (0, 0)):
             self.refused(1, whole_frame, width, height, 3, samples([9] * (width * height)))
 
     def test_whole_frame_refused_before_it_starts(self):
@@ -126,7 +128,7 @@ class Test(unittest.TestCase):
         for threads in (2, 200):
             self.refused(6, whole_frame, 8, 100, 0, mosaic, *lent, 1, threads)
             self.refused(4, whole_frame, 8, 100, 0, mosaic[:799], *lent, 1, threads)
-            self.refused(1, whole_frame, 7, 100, 0, mosaic, *lent, 1, threads)
+            self.refused(1, whole_frame, 1, 100, 0, mosaic, *lent, 1, threads)
         mosaic[799] = 100
         for wrong in (dict(threads=0), dict(threads=-1), dict(strip_height=0), dict(strip_height=0, threads=2)):
             with self.assertRaises(ValueError) as caught:
@@ -140,7 +142,7 @@ class Test(unittest.TestCase):
             self.refused(10, strip, 8, 8, 0, 0, 8, mosaic, *lent, smoothing=smoothing)
             self.refused(10, whole_frame, 8, 8, 0, mosaic, *lent, smoothing=smoothing, threads=2)
             # after 1 and 2, before all others
-            self.refused(1, strip, 7, 8, 0, 0, 8, mosaic, *lent, smoothing=smoothing)
+            self.refused(1, strip, 1, 8, 0, 0, 8, mosaic, *lent, smoothing=smoothing)
             self.refused(2, strip, 8, 8, 4, 0, 8, mosaic, *lent, smoothing=smoothing)
             self.refused(10, strip, 8, 8, 0, 0, 0, samples([4096]), *planes(1), smoothing=smoothing)
             self.refused(10, strip, 8, 8, 0, 2 ** 64 - 1, 2, mosaic, *lent, smoothing=smoothing)
@@ -153,12 +155,12 @@ class Test(unittest.TestCase):
 
     def test_views_refused(self):
         plane, other = samples(range(80)), samples(range(80, 152))
-        self.refused(1, row_view, plane, 7, 0)
+        self.refused(1, row_view, plane, 1, 0)
         self.refused(7, row_view, plane, 8, 10)
         self.refused(7, row_view, plane, 8, -1)
         self.refused(7, row_view, plane, 8, 2 ** 61)
         self.refused(7, row_view, b"", 8, 0)
-        self.refused(1, partner_view, plane, other, 8, 7, 0, 0)
+        self.refused(1, partner_view, plane, other, 8, 1, 0, 0)
         self.refused(2, partner_view, plane, other, 8, 8, 4, 0)
         self.refused(7, partner_view, plane, other, 8, 8, 0, 8)
         self.refused(7, partner_view, plane, other, 8, 10, 0, 9)
@@ -300,7 +302,7 @@ class Test(unittest.TestCase):
 
     def test_there_and_back(self):
         rng = random.Random(7)
-        for width, height in ((8, 8), (9, 8), (8, 15), (13, 31)):
+        for width, height in ((8, 8), (2, 2), (3, 5), (9, 8), (8, 15), (13, 31)):
             for layout in range(4):
                 mosaic = random_mosaic(rng, width * height)
                 back = mosaic_back(width, height, layout, 0, height, *whole_frame(width, height, layout, mosaic))
@@ -315,7 +317,7 @@ class Test(unittest.TestCase):
     def test_mosaic_back_refusals(self):
         (red, green, blue), mosaic = planes(64, 1600), samples([7] * 64)
         whole = (0, 8, red, green, blue, mosaic)
-        self.refused(1, mosaic_back, 7, 8, 0, *whole)
+        self.refused(1, mosaic_back, 1, 8, 0, *whole)
         self.refused(1, mosaic_back, 8, 4097, 0, *whole)
         self.refused(1, mosaic_back, 8, -8, 0, *whole)
         self.refused(1, mosaic_back, 2 ** 64 + 8, 8, 0, *whole)
@@ -342,7 +344,7 @@ class Test(unittest.TestCase):
     def test_mosaic_back_order(self):
         """Everything wrong, then one thing less each time."""
         right, wrong, short = samples([1600] * 64), samples([17] * 64), samples([7] * 63)
-        words, lent = [7, 8, 4, 1, 8], [wrong, wrong, wrong[:63], short]
+        words, lent = [1, 8, 4, 1, 8], [wrong, wrong, wrong[:63], short]
         for number, into, k, better in ((1, words, 0, 8), (2, words, 2, 0), (3, words, 3, 0), (5, lent, 2, wrong),
                                         (5, lent, 3, samples([7] * 64)), (9, lent, 0, right), (9, lent, 1, right), (9, lent, 2, right)):
             self.refused(number, mosaic_back, *words, *lent)
@@ -420,7 +422,7 @@ class Test(unittest.TestCase):
     def test_test_frames(self):
         self.assertEqual(test_frame(0, 8, 8)[0], 966)
         rng = random.Random(14)
-        for width, height in ((8, 8), (9, 13), (30, 8), (8, 4096), (4096, 8)):
+        for width, height in ((8, 8), (2, 2), (3, 2), (9, 13), (30, 8), (2, 4096), (4096, 2)):
             seed = rng.choice((0, 2 ** 32 - 1, rng.randrange(2 ** 32)))
             frame = test_frame(seed, width, height)
             self.assertIsInstance(frame, array.array)
@@ -443,7 +445,7 @@ class Test(unittest.TestCase):
 
     def test_test_frames_refused(self):
         frame, row = samples([7] * 64), samples([7] * 8)
-        for width, height in ((7, 8), (8, 7), (4097, 8), (8, 4097), (0, 0), (-8, 8), (8, 2 ** 64 + 8)):
+        for width, height in ((1, 8), (8, 1), (4097, 8), (8, 4097), (0, 0), (-8, 8), (8, 2 ** 64 + 8)):
             self.refused(1, test_frame, 0, width, height, frame)
             self.refused(1, test_frame, 0, width, height)
             self.refused(1, test_row, 0, width, height, 8, row[:7])
@@ -494,10 +496,22 @@ class Test(unittest.TestCase):
             self.assertEqual(got[2], got[1])
             self.assertNotEqual(got[0], got[1])
 
+    def test_reference_small_frames(self):
+        rng = random.Random(17)
+        for width in range(2, 10):
+            for height in range(2, 10):
+                for layout in range(4):
+                    mosaic, smoothing = random_mosaic(rng, width * height), rng.choice((0, 1, None))
+                    wanted = reference.whole(RULES, reference.Frame(width, height, layout, smoothing), mosaic)
+                    for rows in range(1, height + 1):
+                        got = whole_frame(width, height, layout, mosaic, strip_height=rows, smoothing=smoothing)
+                        self.assertEqual([p.tolist() for p in got], wanted)
+                    self.assertEqual(mosaic_back(width, height, layout, 0, height, *got), mosaic)
+
     def test_reference_strips(self):
         rng = random.Random(5)
         for k in range(300):
-            width, height, layout = rng.randrange(6, 14), rng.randrange(6, 30), rng.randrange(5)
+            width, height, layout = rng.randrange(1, 14), rng.randrange(1, 30), rng.randrange(5)
             first, rows = rng.randrange(height + 2), rng.randrange(5)
             lengths = [max(0, rows * width + rng.choice((0, 0, 0, 0, 0, 0, 0, 1, -1))) for _ in range(3)]
             count = max(0, piece_rows(height, first, rows) * width + rng.choice((0, 0, 0, 0, 0, 0, 0, 0, 1, -1)))
@@ -517,7 +531,7 @@ class Test(unittest.TestCase):
     def test_reference_mosaic_back(self):
         rng, seen = random.Random(12), set()
         for k in range(600):
-            width, height, layout = rng.randrange(6, 16), rng.randrange(6, 30), rng.choice((0, 1, 2, 3, 0, 1, 2, 3, 4))
+            width, height, layout = rng.randrange(1, 16), rng.randrange(1, 30), rng.choice((0, 1, 2, 3, 0, 1, 2, 3, 4))
             first = rng.randrange(height + 1)
             rows = rng.randrange(min(5, height - first + 2))
             *lengths, count = [max(0, rows * width + rng.choice((0,) * 20 + (1, -1, width, -width))) for _ in range(4)]
@@ -539,7 +553,7 @@ class Test(unittest.TestCase):
     def test_reference_test_frames(self):
         rng, seen = random.Random(16), set()
         for k in range(600):
-            seed, width, height = rng.randrange(2 ** 32), rng.randrange(6, 16), rng.randrange(6, 16)
+            seed, width, height = rng.randrange(2 ** 32), rng.randrange(1, 16), rng.randrange(1, 16)
             row = rng.randrange(height + 2)
             for call, by_rule, named, length in ((test_frame, reference.walk, (seed, width, height), width * height),
                                                  (test_row, reference.row_direct, (seed, width, height, row), width)):
@@ -622,7 +636,7 @@ class Test(unittest.TestCase):
     def test_planes_to_frame_refused(self):
         flat = struct.pack(">64H", *[1600] * 64)
         files = dict(red=flat, green=flat, blue=flat)
-        for number, words in ((1, (7, 8, 0)), (1, (8, 70000, 0)), (1, (-8, 8, 0)), (2, (8, 8, 4)), (2, (8, 8, 256)), (5, (8, 9, 0))):
+        for number, words in ((1, (1, 8, 0)), (1, (8, 70000, 0)), (1, (-8, 8, 0)), (2, (8, 8, 4)), (2, (8, 8, 256)), (5, (8, 9, 0))):
             self.assertEqual(self.run_back(files, *words), (1, b"refused %d\n" % number, None))
         for end in files:
             for plane in (b"", flat[:-2], flat + b"\0\0", flat[:-1], flat + b"\0"):
@@ -652,7 +666,7 @@ class Test(unittest.TestCase):
             data = struct.pack(">BIHHB%dH" % len(readings), 1, 5 + 2 * len(readings), width, height, layout, *readings)
             self.assertEqual(self.run_seed(seed, width, height, layout), (0, b"", data))
             self.assertEqual(self.run_tool(data)[0], 0)
-        for number, words in ((1, (0, 7, 8, 0)), (1, (0, 8, 70000, 9)), (1, (0, -8, 8, 0)), (2, (0, 8, 8, 4)), (2, (0, 8, 8, -1))):
+        for number, words in ((1, (0, 1, 8, 0)), (1, (0, 8, 70000, 9)), (1, (0, -8, 8, 0)), (2, (0, 8, 8, 4)), (2, (0, 8, 8, -1))):
             self.assertEqual(self.run_seed(*words), (1, b"refused %d\n" % number, None))
         for words in ((2 ** 32, 8, 8, 0), (-1, 8, 8, 0), (0, 8, "x", 0), (0, 8, 8), ("", 8, 8, 0)):
             self.assertEqual(self.run_seed(*words), (2, b"", None))
@@ -709,7 +723,7 @@ class Test(unittest.TestCase):
         flat = struct.pack(">BIHHB64H", 1, 133, 8, 8, 0, *[100] * 64)
         self.assertEqual(flat[:10].hex(), "01000000850008000800")
         for data, number in ((b"", 8), (flat[:9], 8), (flat[:-1], 8), (flat + b"\0", 8), (b"\2" + flat[1:], 8),
-                             (struct.pack(">BIHHB", 1, 5, 0, 0, 9), 1), (struct.pack(">BIHHB56H", 1, 117, 7, 8, 0, *[1] * 56), 1),
+                             (struct.pack(">BIHHB", 1, 5, 0, 0, 9), 1), (struct.pack(">BIHHB8H", 1, 21, 1, 8, 0, *[1] * 8), 1),
                              (flat[:9] + b"\4" + flat[10:], 2), (flat[:-2] + b"\x10\0", 6)):
             self.assertEqual(self.run_tool(data), (1, b"refused %d\n" % number, {}))
         self.assertEqual(self.run_tool(flat)[0], 0)

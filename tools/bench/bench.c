@@ -1,7 +1,8 @@
-/* Megapixels per second of one thread on a 4096 by 4096 frame: the proved library beside strip_general of reference/demosaic.c in its
- * two builds, in whole numbers and with quotients guessed in floating point and put right (-DFPDIV); in strips of 1, 16, 64 and 4096
- * rows of random readings, and whole for other readings, each by either smoothing; the mosaic back of the whole frame, a test frame, and the same by single rows,
- * each beside a plain function below; and the memory that each uses beside the mosaic and the planes.
+/* Megapixels per second of one thread on a frame of 4096 rows and 4096 columns: the proved library beside strip_general of
+ * reference/demosaic.c in its two builds, in whole numbers and with quotients guessed in floating point and put right (-DFPDIV); in
+ * strips of 1, 16, 64 and 4096 rows of random readings, and whole for other readings and of 64 columns, each by either smoothing; the
+ * mosaic back of the whole frame, a test frame, and the same by single rows, each beside a plain function below; and the memory that
+ * each uses beside the mosaic and the planes.
  *
  *   bench [seconds]    time spent at the least on each figure (default 2)
  *
@@ -59,17 +60,17 @@ static void fill(int kind) {
         }
 }
 
-/* the whole frame in strips of so many rows */
-static void frame(int who, size_t rows, int smoothing) {
+/* the whole frame of so many columns, in strips of so many rows */
+static void frame(int who, size_t W, size_t rows, int smoothing) {
     uint16_t **p = planes[who];
     StripGeneral *general = who == WHOLE ? strip_general_whole : strip_general_fp;
     for (size_t a = 0; a < SIZE; a += rows) {
-        size_t n = a + rows <= SIZE ? rows : SIZE - a, len = n * SIZE, at = a * SIZE;
-        const uint16_t *piece = mosaic + rokzimp_piece_start(a) * SIZE;
-        size_t piece_len = rokzimp_piece_rows(SIZE, a, n) * SIZE;
+        size_t n = a + rows <= SIZE ? rows : SIZE - a, len = n * W, at = a * W;
+        const uint16_t *piece = mosaic + rokzimp_piece_start(a) * W;
+        size_t piece_len = rokzimp_piece_rows(SIZE, a, n) * W;
         uint32_t r = who == LIBRARY
-                         ? rokzimp_strip_smoothed(SIZE, SIZE, 0, (uint8_t)smoothing, a, n, piece, piece_len, p[0] + at, len, p[1] + at, len, p[2] + at, len)
-                         : (uint32_t)general(SIZE, SIZE, 0, smoothing, -1, a, n, 0, -1, 0, piece, piece_len, p[0] + at, len, p[1] + at, len, p[2] + at, len);
+                         ? rokzimp_strip_smoothed(W, SIZE, 0, (uint8_t)smoothing, a, n, piece, piece_len, p[0] + at, len, p[1] + at, len, p[2] + at, len)
+                         : (uint32_t)general(W, SIZE, 0, smoothing, -1, a, n, 0, -1, 0, piece, piece_len, p[0] + at, len, p[1] + at, len, p[2] + at, len);
         if (r) { printf("refused %u\n", r); exit(1); }
     }
 }
@@ -170,7 +171,7 @@ static int beside(const char *what, void (*run)(int plain), double seconds) {
 
 /* the stack that one call takes: run on a stack of a known pattern, and see how deep it was overwritten */
 static void *one_call(void *who) {
-    frame(*(int *)who, SIZE, 1);
+    frame(*(int *)who, SIZE, SIZE, 1);
     return 0;
 }
 static void *one_back(void *plain) {
@@ -208,31 +209,33 @@ int main(int argc, char **argv) {
         back[plain] = malloc(samples * 2);
         memset(back[plain], 0xf0 + plain, samples * 2);
     }
-    struct { int contents; size_t rows; } const figures[] = {{0, 1}, {0, 16}, {0, 64}, {0, 4096}, {1, 4096}, {2, 4096}};
+    struct { int contents; size_t columns, rows; } const figures[] = {{0, 64, 4096}, {0, SIZE, 1}, {0, SIZE, 16}, {0, SIZE, 64},
+                                                                      {0, SIZE, 4096}, {1, SIZE, 4096}, {2, SIZE, 4096}};
     enum { FIGURES = 2 * sizeof figures / sizeof *figures };
     int bad = 0;
-    printf("4096 by 4096, one thread; megapixels per second; ratios of the library to each build of demosaic.c\n");
-    printf("%-10s %6s %9s", "readings", "rows", "smoothing");
+    printf("4096 rows, one thread; megapixels per second; ratios of the library to each build of demosaic.c\n");
+    printf("%-10s %7s %13s %9s", "readings", "columns", "rows in strip", "smoothing");
     for (int who = 0; who < EACH; who++) printf(" %12s", names[who]);
     printf("    ratios\n");
     for (int each = 0; each < FIGURES; each++) {
         int k = each / 2, smoothing = each % 2;
+        size_t pixels = figures[k].columns * SIZE;
         fill(figures[k].contents);
         double best[EACH] = {1e9, 1e9, 1e9}, spent = 0;
         for (int turn = 0; turn < 2 || spent < EACH * seconds; turn++)
             for (int who = 0; who < EACH; who++) {
                 double t = now();
-                frame(who, figures[k].rows, smoothing);
+                frame(who, figures[k].columns, figures[k].rows, smoothing);
                 t = now() - t;
                 spent += t;
                 if (t < best[who]) best[who] = t;
             }
         int differ = 0;
         for (int c = 0; c < 3; c++)
-            for (int who = WHOLE; who < EACH; who++) differ |= memcmp(planes[LIBRARY][c], planes[who][c], samples * 2) != 0;
+            for (int who = WHOLE; who < EACH; who++) differ |= memcmp(planes[LIBRARY][c], planes[who][c], pixels * 2) != 0;
         bad |= differ;
-        printf("%-10s %6zu %9d", contents[figures[k].contents], figures[k].rows, smoothing);
-        for (int who = 0; who < EACH; who++) printf(" %12.1f", (double)samples / best[who] * 1e-6);
+        printf("%-10s %7zu %13zu %9d", contents[figures[k].contents], figures[k].columns, figures[k].rows, smoothing);
+        for (int who = 0; who < EACH; who++) printf(" %12.1f", (double)pixels / best[who] * 1e-6);
         printf(" %6.2f %6.2f%s\n", best[WHOLE] / best[LIBRARY], best[FP] / best[LIBRARY], differ ? "  PLANES DIFFER" : "");
         fflush(stdout);
     }

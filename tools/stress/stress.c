@@ -74,13 +74,14 @@ static void same(const char *what, uint64_t got, uint64_t asked) {
 
 /* a size: mostly small, sometimes at or beyond the limits */
 static uint64_t size(void) {
-    static const uint64_t edge[] = {LEAST, LEAST + 1, 10, 11, 14, 15, 16, 17, 63, 64, 65, 4095, 4096};
+    static const uint64_t edge[] = {LEAST - 1, LEAST, LEAST + 1, 8, 9, 10, 11, 14, 15, 16, 17, 63, 64, 65, 4095, 4096};
     if (one_in(3)) return edge[below(sizeof edge / sizeof *edge)];
+    if (one_in(3)) return LEAST + below(8);
     if (one_in(8)) return LEAST + below(4097 - LEAST);
     return LEAST + below(60);
 }
 static uint64_t odd_number(void) { /* any number, with those near the limits and near wrapping more often */
-    static const uint64_t edge[] = {0, 1, 6, 7, 8, 4096, 4097, 65535, 65536, 1u << 31, UINT32_MAX, (uint64_t)UINT32_MAX + 1,
+    static const uint64_t edge[] = {0, 1, 2, 7, 8, 4096, 4097, 65535, 65536, 1u << 31, UINT32_MAX, (uint64_t)UINT32_MAX + 1,
                                     (uint64_t)1 << 52, (uint64_t)1 << 63, UINT64_MAX - 7, UINT64_MAX - 1, UINT64_MAX};
     if (one_in(4)) return rnd() >> below(64);
     return edge[below(sizeof edge / sizeof *edge)] + (one_in(4) ? below(9) : 0);

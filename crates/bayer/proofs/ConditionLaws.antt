@@ -14,10 +14,10 @@ use Rattle.bayer.specs.Refusal.{firstOf}
 use Rattle.bayer.specs.Condition.{outsideSizes, sizeCases, layoutCases, frameCases, FrameFits, rowsCases, planesMisfit, rangeCases}
 use Rattle.bayer.proofs.RefusalLaws.{off, on, off-append}
 
-size-fits : (n : ℕ) → outsideSizes n ≡ false → (8 ≤ n) × (n ≤ 4096)
-size-fits n e = let p = neither (ltb n 8) (ltb 4096 n) e in (ltb-false n 8 (p .0), ltb-false 4096 n (p .1))
+size-fits : (n : ℕ) → outsideSizes n ≡ false → (2 ≤ n) × (n ≤ 4096)
+size-fits n e = let p = neither (ltb n 2) (ltb 4096 n) e in (ltb-false n 2 (p .0), ltb-false 4096 n (p .1))
 
-pub sizes-fit : (W H : ℕ) → firstOf (sizeCases W H) ≡ 0 → ((8 ≤ W) × (W ≤ 4096)) × ((8 ≤ H) × (H ≤ 4096))
+pub sizes-fit : (W H : ℕ) → firstOf (sizeCases W H) ≡ 0 → ((2 ≤ W) × (W ≤ 4096)) × ((2 ≤ H) × (H ≤ 4096))
 sizes-fit W H e = let o = neither (outsideSizes W) (outsideSizes H) (off (sizeCases W H) e .0) in (size-fits W (o .0), size-fits H (o .1))
 
 pub frame-fits : (f : Frame) → firstOf (frameCases f) ≡ 0 → FrameFits f
@@ -29,7 +29,7 @@ frame-fits f e =
 pub frame-passes : (f : Frame) → FrameFits f → firstOf (frameCases f) ≡ 0
 frame-passes f w =
     on (frameCases f) (
-      rw (le-ltb (f .width) 8 (w .wide), le-ltb 4096 (f .width) (w .narrow), le-ltb (f .height) 8 (w .high), le-ltb 4096 (f .height) (w .low)),
+      rw (le-ltb (f .width) 2 (w .wide), le-ltb 4096 (f .width) (w .narrow), le-ltb (f .height) 2 (w .high), le-ltb 4096 (f .height) (w .low)),
       (le-ltb 3 (f .layout) (w .known), tt),
     )
 

@@ -1,14 +1,17 @@
--- Rows that are near each other. Assumes nothing.
+-- Positions, of rows or of columns, that are near each other. Assumes nothing.
 use Prim.Native.Nat.{ℕ, _+_, _≤_}
 use native.Mathlib.Omega.{arith}
 use lib.IntN.{ℤ, pos, _+ℤ_, _-ℤ_}
 use Rattle.whole.specs.Parts.{up, down}
 use Rattle.whole.proofs.Pairs.{+ℤ-up, -ℤ-up}
 
--- row r is at most k rows away from row i
+-- position r is at most k away from position i
 pub record Near (k : ℕ) (i r : ℤ) : Type 0 where
   pub above : up r + down i ≤ up i + down r + k
   pub below : up i + down r ≤ up r + down i + k
+
+pub here : (k : ℕ) (i : ℤ) → Near k i i
+here k i = record { above = omega arith; below = omega arith }
 
 module _ {i : ℤ} where
   pub wider : (d : ℕ) {c : ℕ} (r : ℤ) → Near c i r → c ≤ d → Near d i r

@@ -12,7 +12,6 @@ use Rattle.bayer.specs.declared.colour.Colour.the-variants.{Green}
 use Rattle.bayer.specs.Colour.{colours, colourAt, same, partner}
 use Rattle.bayer.specs.Mirror.{mirror}
 use Rattle.bayer.specs.Parity.{isOdd, startsGreen}
-use Rattle.bayer.proofs.MirrorLaws.{Reflected}
 use Rattle.bayer.proofs.ColourLaws.{parity-colour, mirror-colour, cells, by-layout}
 
 -- whether the first cell of a layout is green
@@ -67,10 +66,10 @@ starts-next l v i h = rw (starts-is l (v + i) h, starts-is l v h) (sum v i (corn
     sum v i c = omega arith
 
 -- the cell at row n − b and column k − c
-pub place-green : (l H W v n b k c o : ℕ) → l ≤ 3 → Reflected H (subℕ n b) → Reflected W (subℕ k c) → o % 2 ≡ (v + startsGreen l v + n + b + k + c) % 2
+pub place-green : (l H W v n b k c o : ℕ) → l ≤ 3 → 2 ≤ H → 2 ≤ W → o % 2 ≡ (v + startsGreen l v + n + b + k + c) % 2
     → isOdd o ≡ same (colourAt l (mirror H (subℕ n b)) (mirror W (subℕ k c))) Green
-place-green l H W v n b k c o h r s p =
-    sym (ap (λ x. same x Green) (mirror-colour l H W (subℕ n b) (subℕ k c) r s)
+place-green l H W v n b k c o h hH hW p =
+    sym (ap (λ x. same x Green) (mirror-colour l H W (subℕ n b) (subℕ k c) hH hW)
     ∙ cell-green l (natAbs (subℕ n b)) (natAbs (subℕ k c)) h
     ∙ odd-by (natAbs (subℕ n b) + natAbs (subℕ k c) + corner l) o (cells ∙ sym p))
   where

@@ -7,9 +7,9 @@ use Rattle.lists.specs.Bound.{anyAbove}
 use Rattle.bayer.specs.declared.frame.Frame.{Frame}
 use Rattle.bayer.specs.Refusal.{Case, _when_, sizeOutOfRange, unknownLayout, unknownSmoothing, rowsOutsideFrame, wrongPlaneLength, readingOutOfRange}
 
--- 1, for a width or a height: outside 8 to 4096
+-- 1, for a width or a height: outside 2 to 4096
 abbrev pub outsideSizes : ℕ → Bool
-outsideSizes n = ltb n 8 || ltb 4096 n
+outsideSizes n = ltb n 2 || ltb 4096 n
 
 abbrev pub sizeCases : (width height : ℕ) → List Case
 sizeCases width height = (sizeOutOfRange when (outsideSizes width || outsideSizes height)) ∷ []
@@ -27,9 +27,9 @@ frameCases f = sizeCases (f .width) (f .height) ++ layoutCases (f .layout)
 
 -- a frame that neither is refused for
 pub record FrameFits (f : Frame) : Type 0 where
-  pub wide : 8 ≤ f .width
+  pub wide : 2 ≤ f .width
   pub narrow : f .width ≤ 4096
-  pub high : 8 ≤ f .height
+  pub high : 2 ≤ f .height
   pub low : f .height ≤ 4096
   pub known : f .layout ≤ 3
 

@@ -7,11 +7,11 @@ use crate::refusal::ROWS_OUTSIDE_FRAME;
 use crate::refusal::SIZE_OUT_OF_RANGE;
 use crate::refusal::UNKNOWN_LAYOUT;
 
-// Whether a width or a height is outside 8 to 4096.
+// Whether a width or a height is outside 2 to 4096.
 pub fn outside_sizes(n: usize) -> bool
     ensures { λ r. ⌜ r ≡ outsideSizes n ⌝ }
 {
-    if n < 8 {
+    if n < 2 {
         return true;
     }
     4096 < n

@@ -4,6 +4,7 @@ ghost use Prim.Native.Nat.{_<_};
 ghost use lib.ListN.{length};
 use crate::fields::Fields;
 
+mod cuts_case;
 mod fields;
 mod fusion_case;
 mod mosaic_case;
@@ -18,6 +19,9 @@ mod view_case;
 fn answer(letter: u8, f: &Fields) {
     if letter == b'S' {
         strip_case::run(f);
+    }
+    if letter == b'C' {
+        cuts_case::run(f);
     }
     if letter == b'M' {
         mosaic_case::run(f);

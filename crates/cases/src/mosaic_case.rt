@@ -86,7 +86,7 @@ fn there_and_back(
     blue: &mut [u16],
     mosaic: &mut [u16],
 ) {
-    strip_case::call(f, piece, red, green, blue);
+    strip_case::call(f, f[7], f[8], piece, red, green, blue);
     call(f, f[7], f[8], red, green, blue, mosaic);
 }
 

@@ -19,7 +19,8 @@ fn narrow(x: usize) -> u16 {
     (x % 65536) as u16
 }
 
-fn times(a: usize, b: usize) -> usize
+// The product of two numbers, each modulo 2^16.
+pub fn times(a: usize, b: usize) -> usize
     ensures { λ r. ⌜ r < 4294967296 ⌝ }
 {
     low(a) * low(b)

@@ -18,9 +18,11 @@ fn show(got: u32, first: u32, red: &[u16], green: &[u16], blue: &[u16]) {
     io::write_all(1, b"\n");
 }
 
-// The call, as C calls it: the arguments by their places in include/rokzimp.h. A smoothing above 255 is none that is named.
+// The call of rows a to a + n - 1, as C calls it: the arguments by their places in include/rokzimp.h. A smoothing above 255 is none that is named.
 pub fn call(
     f: &Fields,
+    a: usize,
+    n: usize,
     piece: &[u16],
     red: &mut [u16],
     green: &mut [u16],
@@ -28,15 +30,15 @@ pub fn call(
 ) -> u32 {
     let layout = byte(f[3]);
     if 255 < f[5] {
-        return rokzimp_strip(f[1], f[2], layout, f[7], f[8], piece, red, green, blue);
+        return rokzimp_strip(f[1], f[2], layout, a, n, piece, red, green, blue);
     }
     rokzimp_strip_smoothed(
         f[1],
         f[2],
         layout,
         byte(f[5]),
-        f[7],
-        f[8],
+        a,
+        n,
         piece,
         red,
         green,
@@ -66,7 +68,7 @@ fn check(f: &Fields, piece: &[u16], red: usize, green: usize, blue: usize) -> u3
 
 fn check_and_call(f: &Fields, piece: &[u16], red: &mut [u16], green: &mut [u16], blue: &mut [u16]) {
     let first = check(f, piece, red.len(), green.len(), blue.len());
-    let got = call(f, piece, red, green, blue);
+    let got = call(f, f[7], f[8], piece, red, green, blue);
     show(got, first, red, green, blue);
 }
 

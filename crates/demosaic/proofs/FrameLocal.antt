@@ -1,13 +1,11 @@
 -- A frame's row: what it delivers depends on the rows that positions i − 7 to i + 7 read, and a strip's piece has them all. Assumes nothing.
-use mathlib.Core.Path.{_≡_, refl, _∙_, ap}
+use mathlib.Core.Path.{_≡_, _∙_, ap}
 use mathlib.Core.List.{List}
-use Prim.Native.Nat.{ℕ, zero, suc, _+_, _-_, _≤_, _<_}
+use Prim.Native.Nat.{ℕ, _+_, _-_, _≤_, _<_}
 use native.Mathlib.Omega.{arith}
 use lib.Dec.{lit≤}
-use lib.IntN.{ℤ, pos, negsuc, _+ℤ_, _-ℤ_}
+use lib.IntN.{ℤ, pos}
 use lib.ListN.{getD}
-use Rattle.whole.specs.Parts.{up, down}
-use Rattle.whole.proofs.Pairs.{sub-pos}
 use Rattle.lists.specs.Part.{rowOf}
 use Rattle.lists.proofs.JoinedLaws.{parts-same}
 use Rattle.bayer.specs.declared.colour.Colour.{Colour}
@@ -15,44 +13,19 @@ use Rattle.bayer.specs.declared.frame.Frame.{Frame}
 use Rattle.bayer.specs.Mirror.{mirror}
 use Rattle.bayer.specs.Piece.{pieceStart, pieceEnd, pieceOf}
 use Rattle.bayer.specs.Mosaic.{continued}
-use Rattle.bayer.proofs.MirrorLaws.{mirror-is}
+use Rattle.bayer.proofs.MirrorLaws.{mirror-lt, mirror-near, near-before, near-at, near-after}
 use Rattle.bayer.proofs.PieceLaws.{piece-row}
-use Rattle.bayer.proofs.Near.{Near, wider}
+use Rattle.bayer.proofs.Near.{Near, here, wider}
 use Rattle.green_rule.proofs.GreensLaws.{greens-local, exactGreens-local}
 use Rattle.demosaic.specs.Sample.{sample, planeRows}
 use Rattle.demosaic.specs.Exact.{exactSample}
 use Rattle.demosaic.proofs.SampleLocal.{sampleFrom-same, exactFrom-same}
 
--- the mirrors read a row of the frame itself, and beside it, at most one row away
-module _ (H i : ℕ) (hH : 2 ≤ H) (hi : i < H) where
-  near-one : (r : ℤ) → up r ≤ i + 1 → i ≤ up r + 1 → down r ≤ 1 - i → Near 1 (pos i) (pos (mirror H r))
-  near-one (pos p) a b c = rw (mirror-is H (pos p) (omega arith)) (record { above = omega arith; below = omega arith })
-  near-one (negsuc k) a b c = rw (mirror-is H (negsuc k) (omega arith)) (record { above = omega arith; below = omega arith })
-
-  above : Near 1 (pos i) (pos (mirror H (pos i -ℤ pos 1)))
-  above = by-row i refl
-    where
-      by-row : (n : ℕ) → n ≡ i → Near 1 (pos i) (pos (mirror H (pos n -ℤ pos 1)))
-      by-row zero e = near-one (negsuc 0) (omega arith) (omega arith) (omega arith)
-      by-row (suc n) e = rw (sub-pos (suc n) 1 n (omega arith)) (near-one (pos n) (omega arith) (omega arith) (omega arith))
-
-  level : Near 1 (pos i) (pos (mirror H (pos i)))
-  level = near-one (pos i) (omega arith) (omega arith) (omega arith)
-
-  below : Near 1 (pos i) (pos (mirror H (pos i +ℤ pos 1)))
-  below = near-one (pos (i + 1)) (omega arith) (omega arith) (omega arith)
-
 -- rows from `first` on in xs, and from `other` on in ys
-module _ (f : Frame) (first other : ℕ) (xs ys : List ℕ) (i : ℕ) (hH : 2 ≤ f .height) (hi : i < f .height)
+module _ (f : Frame) (first other : ℕ) (xs ys : List ℕ) (i : ℕ) (hi : i < f .height)
     (agree : (r : ℤ) → Near 7 (pos i) r → rowOf (f .width) (mirror (f .height) r - first) xs ≡ rowOf (f .width) (mirror (f .height) r - other) ys) where
   same-row : (r : ℤ) → Near 7 (pos i) r → (continued f first xs) .reading r ≡ (continued f other ys) .reading r
   same-row r h = ap (λ l j. getD l (mirror (f .width) j) 0) (agree r h)
-
-  here : Near 1 (pos i) (pos i)
-  here = record { above = omega arith; below = omega arith }
-
-  abbrev H : ℕ
-  H = f .height
 
   read-same : (r : ℤ) → Near 1 (pos i) r → (j : ℤ) → (continued f first xs) .reading r j ≡ (continued f other ys) .reading r j
   read-same r h j = ap (λ x. x j) (same-row r (wider 7 r h (lit≤ tt)))
@@ -60,19 +33,21 @@ module _ (f : Frame) (first other : ℕ) (xs ys : List ℕ) (i : ℕ) (hH : 2 �
   sample-local : (k : Colour) (j : ℕ) → sample f first xs k i j ≡ sample f other ys k i j
   unfolding sample
   sample-local k j =
-      sampleFrom-same f _ _ _ (pos i) read-same here (above H i hH hi) (level H i hH hi) (below H i hH hi) _ _ (greens-local f first other xs ys (pos i) same-row) k (pos j)
+      sampleFrom-same f _ _ _ (pos i) read-same (here 1 (pos i)) (near-before (f .height) i hi) (near-at (f .height) i hi) (near-after (f .height) i hi) _ _ (greens-local f first other xs ys (pos i) same-row) k (pos j)
 
   exactSample-local : (k : Colour) (j : ℕ) → exactSample f first xs k i j ≡ exactSample f other ys k i j
   unfolding exactSample
   exactSample-local k j =
-      exactFrom-same f _ _ _ (pos i) read-same here (above H i hH hi) (level H i hH hi) (below H i hH hi) _ _ (exactGreens-local f first other xs ys (pos i) same-row) k (pos j)
+      exactFrom-same f _ _ _ (pos i) read-same (here 1 (pos i)) (near-before (f .height) i hi) (near-at (f .height) i hi) (near-after (f .height) i hi) _ _ (exactGreens-local f first other xs ys (pos i) same-row) k (pos j)
 
 -- a strip of n rows from row a, and one of its rows
-module _ (f : Frame) (a n i : ℕ) (hH : 8 ≤ f .height) (hn : a + n ≤ f .height) (low : a ≤ i) (high : i < a + n) where
+module _ (f : Frame) (a n i : ℕ) (hn : a + n ≤ f .height) (low : a ≤ i) (high : i < a + n) where
   -- the piece has every row that is read for row i
   pub in-piece : (r : ℤ) → Near 7 (pos i) r → (pieceStart a ≤ mirror (f .height) r) × (mirror (f .height) r < pieceEnd (f .height) a n)
-  in-piece (pos p) h = rw (mirror-is (f .height) (pos p) (omega arith)) (omega arith)
-  in-piece (negsuc k) h = rw (mirror-is (f .height) (negsuc k) (omega arith)) (omega arith)
+  in-piece r h =
+      let near = mirror-near (f .height) i (omega arith) r 7 h in
+      let inside = mirror-lt (f .height) r (omega arith) in
+      (omega arith, omega arith)
 
   piece-agrees : (frame : List ℕ) (r : ℤ) → Near 7 (pos i) r → rowOf (f .width) (mirror (f .height) r - pieceStart a) (pieceOf (f .width) (f .height) a n frame) ≡ rowOf (f .width) (mirror (f .height) r - 0) frame
   piece-agrees frame r h = piece-row (f .width) (f .height) a n (mirror (f .height) r) frame (in-piece r h .0) (in-piece r h .1)
@@ -80,12 +55,12 @@ module _ (f : Frame) (a n i : ℕ) (hH : 8 ≤ f .height) (hn : a + n ≤ f .hei
 
   -- the samples that the piece gives are the whole frame's
   pub piece-sample : (frame : List ℕ) (k : Colour) (j : ℕ) → sample f (pieceStart a) (pieceOf (f .width) (f .height) a n frame) k i j ≡ sample f 0 frame k i j
-  piece-sample frame k j = sample-local f (pieceStart a) 0 _ _ i (omega arith) (omega arith) (piece-agrees frame) k j
+  piece-sample frame k j = sample-local f (pieceStart a) 0 _ _ i (omega arith) (piece-agrees frame) k j
 
   pub piece-exactSample : (frame : List ℕ) (k : Colour) (j : ℕ) → exactSample f (pieceStart a) (pieceOf (f .width) (f .height) a n frame) k i j ≡ exactSample f 0 frame k i j
-  piece-exactSample frame k j = exactSample-local f (pieceStart a) 0 _ _ i (omega arith) (omega arith) (piece-agrees frame) k j
+  piece-exactSample frame k j = exactSample-local f (pieceStart a) 0 _ _ i (omega arith) (piece-agrees frame) k j
 
 -- and so are its rows
-pub piece-rows : (f : Frame) (a n : ℕ) → 8 ≤ f .height → a + n ≤ f .height → (frame : List ℕ) (k : Colour) → planeRows f (pieceStart a) (pieceOf (f .width) (f .height) a n frame) a n k ≡ planeRows f 0 frame a n k
+pub piece-rows : (f : Frame) (a n : ℕ) → a + n ≤ f .height → (frame : List ℕ) (k : Colour) → planeRows f (pieceStart a) (pieceOf (f .width) (f .height) a n frame) a n k ≡ planeRows f 0 frame a n k
 unfolding planeRows
-piece-rows f a n hH hn frame k = parts-same _ _ (f .width) n (λ i j h g. piece-sample f a n (a + i) hH hn (omega arith) (omega arith) frame k j)
+piece-rows f a n hn frame k = parts-same _ _ (f .width) n (λ i j h g. piece-sample f a n (a + i) hn (omega arith) (omega arith) frame k j)

@@ -14,7 +14,7 @@ use Rattle.bayer.specs.declared.frame.Frame.{Frame}
 use Rattle.bayer.specs.Colour.{colours, colourAt, same}
 use Rattle.bayer.specs.Mirror.{mirror}
 use Rattle.bayer.specs.Mosaic.{continued, isGreen}
-use Rattle.bayer.proofs.MirrorLaws.{Reflected, mirror-inside, mirror-parity}
+use Rattle.bayer.proofs.MirrorLaws.{mirror-inside, mirror-parity}
 use Rattle.bayer.proofs.ColourLaws.{parity-colour, cells, by-layout}
 use Rattle.demosaic.specs.Sample.{Pixel, diagonal, inRow, inColumn, neighbours}
 
@@ -23,14 +23,14 @@ module _ (size p : ℕ) (h : 2 ≤ size) (k : p < size) where
   abbrev Other : ℤ → Type 0
   Other z = mirror size z % 2 ≡ (mirror size (pos p) % 2 + 1) % 2
 
-  other : (z : ℤ) → Reflected size z → natAbs z % 2 ≡ (p % 2 + 1) % 2 → Other z
-  other z r e = rw (mirror-inside size p k) (mirror-parity size z r ∙ e)
+  other : (z : ℤ) → natAbs z % 2 ≡ (p % 2 + 1) % 2 → Other z
+  other z e = rw (mirror-inside size p k) (mirror-parity size z h ∙ e)
 
   before : Other (pos p -ℤ pos 1)
-  before = sub-ind Other p 1 (λ l. other _ (omega arith) (omega arith)) (λ l. other _ (omega arith) (omega arith))
+  before = sub-ind Other p 1 (λ l. other _ (omega arith)) (λ l. other _ (omega arith))
 
   after : Other (pos p +ℤ pos 1)
-  after = other _ (omega arith) (omega arith)
+  after = other _ (omega arith)
 
 -- from the colours of a cell and of those right of it, below it and across: the colour of the cells that k is filled from (at a cell of colour k, its own)
 abbrev source : (k here right below across : Colour) → Colour

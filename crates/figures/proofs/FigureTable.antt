@@ -4,7 +4,7 @@ use mathlib.Core.List.{List, [], _∷_}
 use Prim.Native.Nat.{ℕ, _+_, _*_, min}
 use native.Mathlib.Nat.{mul-pos, mul-div-cancel}
 use native.Mathlib.Omega.{arith}
-use lib.Dec.{T, lit≤}
+use lib.Dec.{T}
 use lib.IntN.{ℤ, pos, negsuc, _+ℤ_, _*ℤ_}
 use Rattle.whole.proofs.Pairs.{Pair, anyₚ, natₚ, _+ₚ_, _*ₚ_, eq-by, eq-of}
 use Rattle.lists.specs.Part.{rowOf}
@@ -13,7 +13,7 @@ use Rattle.lists.specs.Every.{Every}
 use Rattle.lists.specs.Any.{any}
 use Rattle.bayer.specs.declared.colour.Colour.the-variants.{Green}
 use Rattle.bayer.specs.Colour.{colours, colourAt}
-use Rattle.bayer.specs.Mirror.{mirror}
+use Rattle.bayer.specs.Mirror.{reflect, mirror}
 use Rattle.bayer.specs.Refusal.{firstOf}
 use Rattle.gbtf.specs.declared.direction.Direction.{Direction}
 use Rattle.gbtf.specs.Difference.{difference}
@@ -64,17 +64,17 @@ abbrev Greens : (smoothing red green blue : ℕ) (value : ℕ) → Type 0
 Greens smoothing red green blue value = T (planeIs (frame8 smoothing) (readings8 red green blue) Green (λ i j. value))
 
 greens-400 : Greens 0 400 200 100 3200 × Greens 1 400 200 100 3200
-unfolding colours colourAt mirror rowOf difference fusion green DH DV GH GV greenAt greens sample
+unfolding colours colourAt reflect mirror rowOf difference fusion green DH DV GH GV greenAt greens sample
 greens-400 = (tt, tt)
 
 greens-4095 : Greens 0 4095 0 0 0 × Greens 1 4095 0 0 0
-unfolding colours colourAt mirror rowOf difference fusion green DH DV GH GV greenAt greens sample
+unfolding colours colourAt reflect mirror rowOf difference fusion green DH DV GH GV greenAt greens sample
 greens-4095 = (tt, tt)
 
 -- ---- the table
 
 pub figures-hold : Every holds figures
-unfolding colours colourAt mirror rowOf table joined difference fusion fill neighbours otherFrom affine iterate readingsAfter firstOf any stripNumber
+unfolding colours colourAt reflect mirror rowOf table joined difference fusion fill neighbours otherFrom affine iterate readingsAfter firstOf any stripNumber
 figures-hold =
     tt and tt
     and tt
@@ -82,11 +82,13 @@ figures-hold =
     and adds-is 5 (pos 3) and adds-is 5 (pos 2) and adds-is 5 (negsuc 1) and adds-is 5 (negsuc 2)
     and adds-is 100 (pos 50) and adds-is 100 (pos 49) and adds-is 100 (negsuc 49) and adds-is 100 (negsuc 50)
     and tt and tt and tt
-    and planes-are (frame8 0) (readings8 400 200 100) (λ i j. 3200) (lit≤ tt) (lit≤ tt) (greens-400 .0) (λ i j. 6400) (λ i j. 1600) tt tt
-    and planes-are (frame8 1) (readings8 400 200 100) (λ i j. 3200) (lit≤ tt) (lit≤ tt) (greens-400 .1) (λ i j. 6400) (λ i j. 1600) tt tt
-    and planes-are (frame8 0) (readings8 4095 0 0) (λ i j. 0) (lit≤ tt) (lit≤ tt) (greens-4095 .0) (λ i j. 65520) (λ i j. 0) tt tt
-    and planes-are (frame8 1) (readings8 4095 0 0) (λ i j. 0) (lit≤ tt) (lit≤ tt) (greens-4095 .1) (λ i j. 65520) (λ i j. 0) tt tt
+    and planes-are (frame8 0) (readings8 400 200 100) (λ i j. 3200) (greens-400 .0) (λ i j. 6400) (λ i j. 1600) tt tt
+    and planes-are (frame8 1) (readings8 400 200 100) (λ i j. 3200) (greens-400 .1) (λ i j. 6400) (λ i j. 1600) tt tt
+    and planes-are (frame8 0) (readings8 4095 0 0) (λ i j. 0) (greens-4095 .0) (λ i j. 65520) (λ i j. 0) tt tt
+    and planes-are (frame8 1) (readings8 4095 0 0) (λ i j. 0) (greens-4095 .1) (λ i j. 65520) (λ i j. 0) tt tt
     and tt and tt and tt and tt
+    and tt and tt and tt
+    and refl and refl and refl and refl and refl and refl
     and tt and tt and tt
     and tt and tt
     and refl and refl and refl and refl and refl

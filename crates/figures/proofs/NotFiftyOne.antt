@@ -9,7 +9,7 @@ use Rattle.lists.specs.Any.{any}
 use Rattle.bayer.specs.declared.colour.Colour.{Colour}
 use Rattle.bayer.specs.declared.colour.Colour.the-variants.{Red, Green, Blue}
 use Rattle.bayer.specs.Colour.{colours, colourAt}
-use Rattle.bayer.specs.Mirror.{mirror}
+use Rattle.bayer.specs.Mirror.{reflect, mirror}
 use Rattle.bayer.specs.Planes.{Planes}
 use Rattle.bayer.specs.Refusal.{firstOf}
 use Rattle.gbtf.specs.Difference.{difference}
@@ -26,7 +26,7 @@ use Rattle.figures.specs.Figures.{frame8}
 use Rattle.figures.specs.Sharpness.{readings51}
 
 pub not-51 : Within (natural (sample (frame8 0) 0 readings51 Green 2 2)) (exactSample (frame8 0) 0 readings51 Green 2 2) 51 100 → ⊥
-unfolding colours colourAt mirror rowOf difference fusion green DH DV GH GV greenAt greens sumOver/t² exactGreen exactGreenAt exactGreens sample exactSample
+unfolding colours colourAt reflect mirror rowOf difference fusion green DH DV GH GV greenAt greens sumOver/t² exactGreen exactGreenAt exactGreens sample exactSample
 not-51 h = le→leb _ _ (h .low)
 
 -- a strip call over the whole frame accepts it

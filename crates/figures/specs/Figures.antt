@@ -14,7 +14,8 @@ use Rattle.bayer.specs.declared.frame.Frame.{Frame}
 use Rattle.bayer.specs.Frame.{frame, smoothed}
 use Rattle.bayer.specs.Mirror.{mirror}
 use Rattle.bayer.specs.Planes.{threePlanes}
-use Rattle.bayer.specs.Refusal.{Refusal, notCameraPlanes, unknownSmoothing, number}
+use Rattle.bayer.specs.Refusal.{Refusal, notCameraPlanes, unknownSmoothing, number, firstOf}
+use Rattle.bayer.specs.Condition.{sizeCases}
 use Rattle.gbtf.specs.declared.direction.Direction.{Direction}
 use Rattle.gbtf.specs.Difference.{difference}
 use Rattle.gbtf.specs.Direction.{total, guarded, direction, guardedSum}
@@ -39,6 +40,8 @@ pub data Claim : Type 0 where
   -- every sample of the three planes of the 8 by 8 frame, layout 0, of this smoothing, whose red, green and blue readings are these
   planesOf : (smoothing : ℕ) (red green blue : ℕ) → (R G B : ℕ) → Claim
   mirrorReads : (size : ℕ) (position : ℤ) → ℕ → Claim
+  -- the number that a width and a height are refused with, or 0
+  sizesAre : (width height : ℕ) → ℕ → Claim
   -- the hundredths of a unit that plane k may lie from the exact reconstruction
   printedIs : (k : Colour) → ℕ → Claim
   numberIs : Refusal → ℕ → Claim
@@ -85,6 +88,7 @@ holds (fusionAdds T sum z) =
 holds (fillIs n g sum v) = T (eqb (fill n g sum) v)
 holds (planesOf smoothing red green blue R G B) = PlanesAre (frame8 smoothing) (readings8 red green blue) (λ i j. R) (λ i j. G) (λ i j. B)
 holds (mirrorReads size z v) = T (eqb (mirror size z) v)
+holds (sizesAre width height n) = firstOf (sizeCases width height) ≡ n
 holds (printedIs k n) = T (eqb (printedError k) n)
 holds (numberIs r n) = T (eqb (number r) n)
 holds (noRowIs layout smoothing n) = stripNumber (asked (smoothed 8 8 layout smoothing) 0 0 []) 0 0 0 ≡ n
@@ -106,6 +110,8 @@ figures =
     ∷ planesOf 0 400 200 100 6400 3200 1600 ∷ planesOf 1 400 200 100 6400 3200 1600
     ∷ planesOf 0 4095 0 0 65520 0 0 ∷ planesOf 1 4095 0 0 65520 0 0
     ∷ mirrorReads 8 (negsuc 0) 1 ∷ mirrorReads 8 (negsuc 6) 7 ∷ mirrorReads 8 (pos 8) 6 ∷ mirrorReads 8 (pos 14) 0
+    ∷ mirrorReads 2 (negsuc 2) 1 ∷ mirrorReads 2 (pos 4) 0 ∷ mirrorReads 3 (pos 7) 1
+    ∷ sizesAre 1 8 1 ∷ sizesAre 8 1 1 ∷ sizesAre 2 2 0 ∷ sizesAre 4096 4096 0 ∷ sizesAre 4097 8 1 ∷ sizesAre 8 4097 1
     ∷ printedIs Red 155 ∷ printedIs Green 53 ∷ printedIs Blue 155
     ∷ numberIs notCameraPlanes 9 ∷ numberIs unknownSmoothing 10
     ∷ noRowIs 0 0 3 ∷ noRowIs 0 1 3 ∷ noRowIs 0 2 10 ∷ noRowIs 0 255 10 ∷ noRowIs 4 2 2

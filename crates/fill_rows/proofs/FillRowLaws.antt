@@ -71,16 +71,16 @@ module _ (f : Frame) (first : ℕ) (rows : List ℕ) (G : (i j : ℤ) → ℕ) (
   colour-difference-at : {r c : ℕ} (i j : ℤ) → Read (f .height) r i → Read (f .width) c j → colourDifferenceAt (row r) (greens r) c ≡ differenceOf (mirror (f .height) i) (mirror (f .width) j)
   colour-difference-at {r} {c} i j p q = ap₂ colourDifference (green-at r c (q .1)) (read-at r c (p .1) (q .1)) ∙ ap₂ differenceOf (p .0) (q .0)
 
-  colours-at : (j : ℕ) → j ≤ f .width → looks own (m .colour (pos v) (pos j)) ≡ shared (isOdd (j + odd))
-  colours-at j h = ap (looks own) (mirror-colour (f .layout) (f .height) (f .width) (pos v) (pos j) (omega arith) (omega arith)) ∙ row-colours (f .layout) v j known
+  colours-at : (j : ℕ) → looks own (m .colour (pos v) (pos j)) ≡ shared (isOdd (j + odd))
+  colours-at j = ap (looks own) (mirror-colour (f .layout) (f .height) (f .width) (pos v) (pos j) high wide) ∙ row-colours (f .layout) v j known
 
   module _ (j : ℕ) (hj : j < f .width) where
     -- the colours at this pixel, and next to it
     here : {green : Bool} → isOdd (j + odd) ≡ green → looks own (m .colour (pos v) (pos j)) ≡ shared green
-    here e = colours-at j (omega arith) ∙ ap shared e
+    here e = colours-at j ∙ ap shared e
 
     next : looks own (m .colour (pos v) (pos j +ℤ pos 1)) ≡ shared (isOdd (j + 1 + odd))
-    next = colours-at (j + 1) (omega arith)
+    next = colours-at (j + 1)
 
     -- the differences at the pixels that are read for row i, left and right of this one, and at its own column
     module _ {r : ℕ} (i : ℤ) (p : Read (f .height) r i) where

@@ -2,15 +2,10 @@
 use Prim.Native.Nat.{ℕ, _+_, _-_, _≤_, _<_}
 use mathlib.Core.Path.{_≡_, refl, sym, ap, _∙_}
 use native.Mathlib.Omega.{arith}
-use lib.Dec.{lit≤}
 use lib.IntN.{ℤ, pos, subℕ, _+ℤ_, _-ℤ_}
 use Rattle.whole.proofs.Pairs.{sub-pos}
 use Rattle.bayer.specs.Mirror.{mirror}
-use Rattle.bayer.proofs.MirrorLaws.{mirror-near, mirror-lt, mirror-inside, mirror-from}
-
--- it lies inside
-pub side-in : (size at lead : ℕ) → 2 ≤ size → at ≤ size → lead ≤ 1 → mirror size (subℕ at lead) < size
-side-in size at lead h k l = mirror-lt size (subℕ at lead) (omega arith) (mirror-near size at lead (omega arith) (omega arith))
+use Rattle.bayer.proofs.MirrorLaws.{mirror-lt, mirror-inside, mirror-from}
 
 -- away from the ends it is the position itself
 pub before-inside : (size p : ℕ) → 1 ≤ p → p ≤ size → p - 1 ≡ mirror size (subℕ p 1)
@@ -28,11 +23,11 @@ module _ (size p : ℕ) (h : 2 ≤ size) (k : p < size) where
   at-read = (sym (mirror-inside size p k), k)
 
   pub before-read : Read size (mirror size (subℕ p 1)) (pos p -ℤ pos 1)
-  before-read = (refl, side-in size p 1 h (omega arith) (lit≤ tt))
+  before-read = (refl, mirror-lt size _ (omega arith))
 
   -- just after it, in the code's form and in the definitions'
   pub after-read : Read size (mirror size (subℕ (p + 1) 0)) (pos p +ℤ pos 1)
-  after-read = (ap (mirror size) (sub-pos (p + 1) 0 (p + 1) (omega arith)), side-in size (p + 1) 0 h (omega arith) (lit≤ tt))
+  after-read = (ap (mirror size) (sub-pos (p + 1) 0 (p + 1) (omega arith)), mirror-lt size _ (omega arith))
 
   pub next-read : Read size (mirror size (pos p +ℤ pos 1)) (pos p +ℤ pos 1)
-  next-read = (refl, mirror-lt size (pos (p + 1)) (omega arith) (omega arith))
+  next-read = (refl, mirror-lt size _ (omega arith))

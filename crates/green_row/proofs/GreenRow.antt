@@ -3,7 +3,6 @@ use Prim.Native.Nat.{ℕ, _+_, _-_, _*_, _≤_, _<_}
 use mathlib.Core.List.{List}
 use mathlib.Core.Path.{_≡_, sym, ap, ap₂, _∙_}
 use native.Mathlib.Omega.{arith}
-use lib.Dec.{lit≤}
 use lib.IntN.{ℤ, pos, subℕ}
 use lib.ListN.{getD}
 use Rattle.lists.specs.Part.{rowOf, part}
@@ -54,7 +53,7 @@ module _ {f : Frame} {first : ℕ} {rows : List ℕ} {v s o : ℕ} {x : List ℕ
       record {
         wide = p .wide;
         own-at = λ j h. ap₂ (λ a b. getD (rowOf (f .width) (a - first) rows) b 0) (sym (mirror-inside (f .height) v (p .lent .row))) (sym (mirror-inside (f .width) j h));
-        green-at = λ j h. green-at p 6 (j + 7) (j + startsGreen (f .layout) v) (lit≤ tt) (omega arith) (omega arith) ∙ ap₂ (isGreen (continued f first rows)) (at-place v 6) (at-place j 7);
+        green-at = λ j h. green-at p 6 (j + 7) (j + startsGreen (f .layout) v) (omega arith) ∙ ap₂ (isGreen (continued f first rows)) (at-place v 6) (at-place j 7);
         dh-at = DH-at p x hx x-at hx-at;
         dv-at = DV-at p x x-at;
         gh-at = GH-at p x hx x-at hx-at;

@@ -56,9 +56,9 @@ pub record RowHolds (m : Mosaic) (v w s o : ℕ) (own : List ℕ) (dh dv : List 
   pub own-at : (j : ℕ) → j < w → getD own j 0 ≡ m .reading (pos v) (pos j)
   pub green-at : (j : ℕ) → j < w → isOdd (j + o) ≡ isGreen m (pos v) (pos j)
   pub dh-at : (r c : ℕ) → r < 3 → c + 4 < s → getD dh (r * s + (c + 2)) (pos 0) ≡ DH m (subℕ (v + (5 + r)) 6) (subℕ (c + 2) 7)
-  pub dv-at : (r c : ℕ) → r < 9 → c < s → c ≤ w + 13 → getD dv (r * s + c) (pos 0) ≡ DV m (subℕ (v + (r + 2)) 6) (subℕ c 7)
+  pub dv-at : (r c : ℕ) → r < 9 → c < s → getD dv (r * s + c) (pos 0) ≡ DV m (subℕ (v + (r + 2)) 6) (subℕ c 7)
   pub gh-at : (r c : ℕ) → r < 3 → c + 8 < s → getD gh (r * s + (c + 2)) 0 ≡ GH m (subℕ (v + (5 + r)) 6) (subℕ (c + 4) 7)
-  pub gv-at : (r c : ℕ) → r < 5 → c < s → c ≤ w + 13 → getD gv (r * s + c) 0 ≡ GV m (subℕ (v + (r + 4)) 6) (subℕ c 7)
+  pub gv-at : (r c : ℕ) → r < 5 → c < s → getD gv (r * s + c) 0 ≡ GV m (subℕ (v + (r + 4)) 6) (subℕ c 7)
 
 module _ {m : Mosaic} {v w s o : ℕ} {own : List ℕ} {dh dv : List ℤ} {gh gv : List ℕ} (z : RowHolds m v w s o own dh dv gh gv) (ws : List ℕ) (j : ℕ) (hj : j < w) where
   -- row v, and columns from j on and back
@@ -81,7 +81,7 @@ module _ {m : Mosaic} {v w s o : ℕ} {own : List ℕ} {dh dv : List ℤ} {gh gv
   gv-window : (q p : ℕ) → (i : ℕ) → q ≡ i * s + (j + 6) → i ≤ 2 → p ≡ v + (i + 4) → windowIn s gv q ≡ window (GV m) (subℕ p 6) (pos j -ℤ pos 1)
   gv-window q p i a h b =
       window-at s gv (GV m) q p 6 (j + 6) 7
-      (λ r e k l. (let d : q + r * s + e ≡ (i + r) * s + (j + 6 + e) = omega arith in ap (λ n. getD gv n 0) d) ∙ z .gv-at (i + r) (j + 6 + e) (omega arith) (omega arith) (omega arith)
+      (λ r e k l. (let d : q + r * s + e ≡ (i + r) * s + (j + 6 + e) = omega arith in ap (λ n. getD gv n 0) d) ∙ z .gv-at (i + r) (j + 6 + e) (omega arith) (omega arith)
       ∙ ap (λ y. GV m (subℕ y 6) (subℕ (j + 6 + e) 7)) (let d : v + (i + r + 4) ≡ p + r = omega arith in d))
       ∙ ap (λ z. window (GV m) (subℕ p 6) z) (eq-by (subₚ (j + 6) 7) (natₚ j -ₚ natₚ 1) (omega arith))
 
@@ -97,7 +97,7 @@ module _ {m : Mosaic} {v w s o : ℕ} {own : List ℕ} {dh dv : List ℤ} {gh gv
 
   north-is : directionIn ws s dh dv gh gv j 2 ≡ north ws m (pos v) (pos j)
   north-is = ap₂ direction
-      (five-sum-same ws _ _ (λ k l. (let a : 4 * s + (j + 7) - k * s ≡ (4 - k) * s + (j + 7) = up-rows k l in ap (λ n. getD dv n (pos 0)) a) ∙ z .dv-at (4 - k) (j + 7) (omega arith) (omega arith) (omega arith)
+      (five-sum-same ws _ _ (λ k l. (let a : 4 * s + (j + 7) - k * s ≡ (4 - k) * s + (j + 7) = up-rows k l in ap (λ n. getD dv n (pos 0)) a) ∙ z .dv-at (4 - k) (j + 7) (omega arith) (omega arith)
       ∙ ap₂ (DV m) (eq-by (subₚ (v + (4 - k + 2)) 6) (natₚ v -ₚ natₚ k) (omega arith)) (at-place j 7)))
       (ap directionSum (gv-window (j + 6) (v + 4) 0 (omega arith) (lit≤ tt) refl ∙ ap (λ z. window (GV m) z (pos j -ℤ pos 1)) (eq-by (subₚ (v + 4) 6) (natₚ v -ₚ natₚ 2) (omega arith))))
     where
@@ -106,7 +106,7 @@ module _ {m : Mosaic} {v w s o : ℕ} {own : List ℕ} {dh dv : List ℤ} {gh gv
 
   south-is : directionIn ws s dh dv gh gv j 3 ≡ south ws m (pos v) (pos j)
   south-is = ap₂ direction
-      (five-sum-same ws _ _ (λ k l. (let a : 4 * s + (j + 7) + k * s ≡ (4 + k) * s + (j + 7) = omega arith in ap (λ n. getD dv n (pos 0)) a) ∙ z .dv-at (4 + k) (j + 7) (omega arith) (omega arith) (omega arith)
+      (five-sum-same ws _ _ (λ k l. (let a : 4 * s + (j + 7) + k * s ≡ (4 + k) * s + (j + 7) = omega arith in ap (λ n. getD dv n (pos 0)) a) ∙ z .dv-at (4 + k) (j + 7) (omega arith) (omega arith)
       ∙ ap₂ (DV m) (eq-by (subₚ (v + (4 + k + 2)) 6) (natₚ v +ₚ natₚ k) (omega arith)) (at-place j 7)))
       (ap directionSum (gv-window (2 * s + (j + 6)) (v + 6) 2 refl (lit≤ tt) refl ∙ ap (λ z. window (GV m) z (pos j -ℤ pos 1)) (at-place v 6)))
 

@@ -19,7 +19,6 @@ use Rattle.bayer.specs.Mirror.{mirror}
 use Rattle.bayer.specs.Mosaic.{Mosaic, continued, isGreen}
 use Rattle.bayer.specs.Parity.{isOdd, startsGreen}
 use Rattle.bayer.specs.Lent.{Lent}
-use Rattle.bayer.proofs.MirrorLaws.{mirror-near}
 use Rattle.bayer.proofs.ParityLaws.{place-green, starts-below}
 use Rattle.gbtf.specs.Difference.{difference, plainGradient}
 use Rattle.gbtf.specs.GreenAt.{differenceAlong, plainGradientAlong, gradientAlong, DH, DV, GH, GV}
@@ -127,12 +126,9 @@ module _ {f : Frame} {first : ℕ} {rows : List ℕ} {v s : ℕ} (z : RowPlaces 
       ∙ ap (λ n. getD (rowOf (f .width) (mirror (f .height) (Row r) - first) rows) (mirror n (Col c)) 0) (row-length r h)
 
   -- column 0 and this row's places decide which are green
-  pub green-at : (r c o : ℕ) → r < 13 → c ≤ f .width + 13 → o % 2 ≡ (r + c + 1 + g) % 2 → isOdd o ≡ isGreen m (Row r) (Col c)
-  green-at r c o h k e =
-      place-green (f .layout) (f .height) (f .width) v (v + r) 6 c 7 o (z .lent .frame .known)
-      (mirror-near (f .height) (v + r) 6 (omega (arith, z .lent .frame .high)) (omega (arith, z .lent .frame .high, z .lent .row)))
-      (mirror-near (f .width) c 7 (omega (arith, z .lent .frame .wide)) (omega (arith, z .lent .frame .wide)))
-      (e ∙ twice r c g v)
+  pub green-at : (r c o : ℕ) → o % 2 ≡ (r + c + 1 + g) % 2 → isOdd o ≡ isGreen m (Row r) (Col c)
+  green-at r c o e =
+      place-green (f .layout) (f .height) (f .width) v (v + r) 6 c 7 o (z .lent .frame .known) (z .lent .frame .high) (z .lent .frame .wide) (e ∙ twice r c g v)
     where
       twice : (r c g v : ℕ) → (r + c + 1 + g) % 2 ≡ (v + g + (v + r) + 6 + c + 7) % 2
       twice r c g v = omega arith
@@ -147,7 +143,7 @@ module _ {f : Frame} {first : ℕ} {rows : List ℕ} {v s : ℕ} (z : RowPlaces 
     DH-at r c h k =
         getD-table (differenceIn 1 g hx) (3 * s) (r * s + (c + 2)) (pos 0) (omega (arith, mul-le-mul-right s h))
         ∙ difference-along 1 g hx (r * s + (c + 2)) (λ z. isGreen m (Row (5 + r)) z) (λ z. m .reading (Row (5 + r)) z) c 7 read
-        (green-at (5 + r) (c + 2) (r * s + (c + 2) + g) (omega arith) (omega arith) (parity r c g (odd-row r s (z .odd))))
+        (green-at (5 + r) (c + 2) (r * s + (c + 2) + g) (parity r c g (odd-row r s (z .odd))))
       where
         read : (e : ℕ) → e ≤ 4 → getD hx (r * s + (c + 2) + e * 1) 0 ≡ m .reading (Row (5 + r)) (Col (c + e))
         read e l =
@@ -179,12 +175,12 @@ module _ {f : Frame} {first : ℕ} {rows : List ℕ} {v s : ℕ} (z : RowPlaces 
     abbrev dv : List ℤ
     dv = table (differenceIn s (1 - g) x) (9 * s)
 
-    pub DV-at : (r c : ℕ) → r < 9 → c < s → c ≤ f .width + 13 → getD dv (r * s + c) (pos 0) ≡ DV m (Row (r + 2)) (Col c)
+    pub DV-at : (r c : ℕ) → r < 9 → c < s → getD dv (r * s + c) (pos 0) ≡ DV m (Row (r + 2)) (Col c)
     unfolding DV
-    DV-at r c h k l =
+    DV-at r c h k =
         getD-table (differenceIn s (1 - g) x) (9 * s) (r * s + c) (pos 0) (omega (arith, mul-le-mul-right s h))
         ∙ difference-along s (1 - g) x (r * s + c) (λ z. isGreen m z (Col c)) (λ z. m .reading z (Col c)) (v + r) 6 read
-        (green-at (r + 2) c (r * s + c + (1 - g)) (omega arith) l (parity r c (starts-below (f .layout) v) (odd-row r s (z .odd))) ∙ ap (λ n. isGreen m (subℕ n 6) (Col c)) place)
+        (green-at (r + 2) c (r * s + c + (1 - g)) (parity r c (starts-below (f .layout) v) (odd-row r s (z .odd))) ∙ ap (λ n. isGreen m (subℕ n 6) (Col c)) place)
         ∙ ap (λ n. differenceAlong (λ z. isGreen m z (Col c)) (λ z. m .reading z (Col c)) (subℕ n 6)) (sym place)
       where
         place : v + (r + 2) ≡ v + r + 2
@@ -202,9 +198,9 @@ module _ {f : Frame} {first : ℕ} {rows : List ℕ} {v s : ℕ} (z : RowPlaces 
     abbrev gv : List ℕ
     gv = table (gradientIn s dv) (5 * s)
 
-    pub GV-at : (r c : ℕ) → r < 5 → c < s → c ≤ f .width + 13 → getD gv (r * s + c) 0 ≡ GV m (Row (r + 4)) (Col c)
+    pub GV-at : (r c : ℕ) → r < 5 → c < s → getD gv (r * s + c) 0 ≡ GV m (Row (r + 4)) (Col c)
     unfolding GV
-    GV-at r c h k l =
+    GV-at r c h k =
         let b : v + (r + 2) + 2 ≡ v + (r + 4) = omega arith in
         getD-table (gradientIn s dv) (5 * s) (r * s + c) 0 (omega (arith, mul-le-mul-right s h))
         ∙ gradient-along s dv (r * s + c) (λ z. DV m z (Col c)) (v + (r + 2)) 6 read
@@ -214,4 +210,4 @@ module _ {f : Frame} {first : ℕ} {rows : List ℕ} {v s : ℕ} (z : RowPlaces 
         read e i =
             let a : r * s + c + e * s ≡ (r + e) * s + c = omega arith in
             let d : v + (r + e + 2) ≡ v + (r + 2) + e = omega arith in
-            ap (λ n. getD dv n (pos 0)) a ∙ DV-at (r + e) c (omega arith) k l ∙ ap (λ n. DV m (subℕ n 6) (Col c)) d
+            ap (λ n. getD dv n (pos 0)) a ∙ DV-at (r + e) c (omega arith) k ∙ ap (λ n. DV m (subℕ n 6) (Col c)) d

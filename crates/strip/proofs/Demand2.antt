@@ -35,4 +35,4 @@ pub demand-2 : (f : Frame) (readings : List ℕ) (a n : ℕ) {lent after : Plane
     → Promise (asked f a n (pieceOf (f .width) (f .height) a n readings)) lent answer after → answer ≡ 0 → (k : Colour) → after k ≡ frameRows f readings a n k
 demand-2 f readings a n p e k =
     let w = fits (asked f a n (pieceOf (f .width) (f .height) a n readings)) _ _ _ (sym (p .number) ∙ e) in
-    accepted-plane p e k ∙ piece-rows f a n (w .frame .high) (w .rows) readings k
+    accepted-plane p e k ∙ piece-rows f a n (w .rows) readings k

@@ -115,7 +115,7 @@ module _ (f : Frame) (readings : List ℕ) where
             size = plane-length (named c) (pieceStart a) _ a n k;
             each = λ i j h g.
                 subst (Holds k (a + i) j)
-                (sym (plane-at (named c) (pieceStart a) _ a n k i j h g ∙ piece-sample (named c) a n (a + i) (w .frame .high) (w .rows) (omega arith) (omega arith) readings k j))
+                (sym (plane-at (named c) (pieceStart a) _ a n k i j h g ∙ piece-sample (named c) a n (a + i) (w .rows) (omega arith) (omega arith) readings k j))
                 (holds c o k (a + i) j (omega (arith, w .rows)) g);
           }
 
@@ -177,7 +177,7 @@ module _ (f : Frame) (readings : List ℕ) where
       let a = c .asked .first in
       let n = c .asked .count in
       let w = fits-ours (OfFrame f readings) (λ c o. o .mosaic) c (v .0) (h .1 .premise (v .0)) in
-      rw (piece-sample f a n i (w .frame .high) (w .rows) (v .1) (v .2) readings k j, piece-exactSample f a n i (w .frame .high) (w .rows) (v .1) (v .2) readings k j)
+      rw (piece-sample f a n i (w .rows) (v .1) (v .2) readings k j, piece-exactSample f a n i (w .rows) (v .1) (v .2) readings k j)
       at (printed-error f (pieceStart a) (pieceOf (f .width) (f .height) a n readings) (w .range) k i j)
 
   weakened : (l : List StripCall) (p q : Planes) → CalledAll (OfFrame f readings) l p q → CalledAll (OfMosaic f readings) l p q

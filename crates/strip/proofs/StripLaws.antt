@@ -72,7 +72,7 @@ module _ (c : Asked) {red green blue : ℕ} (w : Fits c red green blue) where
       inside : (r : ℕ) → r < 13 → (pieceStart (c .first) ≤ mirror (c .frame .height) (subℕ (v + r) 6)) × (mirror (c .frame .height) (subℕ (v + r) 6) < pieceEnd (c .frame .height) (c .first) (c .count))
       inside r h =
           let d = differs (subₚ (v + r) 6) in
-          in-piece (c .frame) (c .first) (c .count) i (w .frame .high) (w .rows) (omega arith) (omega (arith, w .some)) (subℕ (v + r) 6) (record { above = near-above d; below = near-below d })
+          in-piece (c .frame) (c .first) (c .count) i (w .rows) (omega arith) (omega (arith, w .some)) (subℕ (v + r) 6) (record { above = near-above d; below = near-below d })
         where
           near-above : v + r + down (subℕ (v + r) 6) ≡ up (subℕ (v + r) 6) + 6 → up (subℕ (v + r) 6) + 0 ≤ max (c .first) (min v (c .first + c .count - 1)) + down (subℕ (v + r) 6) + 7
           near-above d = omega (arith, w .some)

@@ -1,8 +1,8 @@
--- Values of the exact reconstruction of the frames of worked_planes/specs/WorkedPlanes. proofs/ExactTable.antt has the theorem. Made by tools/make_figures.py 38 from reference/, stage A.5, and from nothing else. Assumes nothing.
+-- Values of the exact reconstruction of the frames of worked_planes/specs/WorkedPlanes. proofs/ExactTable.antt has the theorem. Made by tools/make_figures.py 38 from reference/, stage A.6, and from nothing else. Assumes nothing.
 use mathlib.Core.List.{List, [], _∷_}
 use Rattle.bayer.specs.declared.colour.Colour.the-variants.{Red, Green, Blue}
 use Rattle.worked_exact.specs.ExactClaim.{Value, exactly, ExactClaim, givesExact}
-use Rattle.worked_planes.specs.WorkedPlanes.{frame₀, readings₀, frame₁, readings₁, frame₂, readings₂, frame₃, readings₃}
+use Rattle.worked_planes.specs.WorkedPlanes.{frame₀, readings₀, frame₁, readings₁, frame₂, readings₂, frame₃, readings₃, frame₄, readings₄, frame₅, readings₅, frame₆, readings₆, frame₇, readings₇}
 
 abbrev pub values₀ : List Value
 values₀ =
@@ -85,5 +85,74 @@ values₃ =
 abbrev pub exact₃ : ExactClaim
 exact₃ = givesExact frame₃ readings₃ values₃
 
+abbrev pub values₄ : List Value
+values₄ =
+    exactly Red 0 1 29616 1
+    ∷ exactly Red 1 0 26576 1
+    ∷ exactly Red 1 1 28096 1
+    ∷ exactly Green 0 0 40240 1
+    ∷ exactly Green 1 1 40240 1
+    ∷ exactly Blue 0 0 31376 1
+    ∷ exactly Blue 0 1 32896 1
+    ∷ exactly Blue 1 0 29856 1
+    ∷ []
+
+abbrev pub exact₄ : ExactClaim
+exact₄ = givesExact frame₄ readings₄ values₄
+
+abbrev pub values₅ : List Value
+values₅ =
+    exactly Red 0 0 12084 1
+    ∷ exactly Red 0 1 2340 1
+    ∷ exactly Red 1 0 29588 1
+    ∷ exactly Red 2 0 30028 1
+    ∷ exactly Red 2 1 22708 1
+    ∷ exactly Green 0 0 26480 1
+    ∷ exactly Green 1 1 35452 1
+    ∷ exactly Green 2 0 44424 1
+    ∷ exactly Blue 0 1 18192 1
+    ∷ exactly Blue 1 0 44228 1
+    ∷ exactly Blue 1 1 35696 1
+    ∷ exactly Blue 2 1 36136 1
+    ∷ []
+
+abbrev pub exact₅ : ExactClaim
+exact₅ = givesExact frame₅ readings₅ values₅
+
+abbrev pub values₆ : List Value
+values₆ =
+    exactly Red 0 0 32880 1
+    ∷ exactly Red 0 2 32432 1
+    ∷ exactly Red 1 0 40584 1
+    ∷ exactly Red 1 1 42512 1
+    ∷ exactly Red 1 2 34584 1
+    ∷ exactly Green 0 1 30032 1
+    ∷ exactly Green 1 0 33032 1
+    ∷ exactly Green 1 2 27032 1
+    ∷ exactly Blue 0 0 31928 1
+    ∷ exactly Blue 0 1 33856 1
+    ∷ exactly Blue 0 2 25928 1
+    ∷ exactly Blue 1 1 38784 1
+    ∷ []
+
+abbrev pub exact₆ : ExactClaim
+exact₆ = givesExact frame₆ readings₆ values₆
+
+abbrev pub values₇ : List Value
+values₇ =
+    exactly Red 0 0 3846242224156530106462 163933887422432825
+    ∷ exactly Red 0 3 1241398890905523876207498015897289690173107560103674537477 50109471227171613901816065424115241767685571633375250
+    ∷ exactly Red 2 0 1953660713802920596700718116069 66953381417457236992607425
+    ∷ exactly Red 3 3 33023429683039277033561 1098058906712157625
+    ∷ exactly Green 0 1 4797555796704854413849 110828105096435545
+    ∷ exactly Green 1 0 4972089448070976415938 163933887422432825
+    ∷ exactly Green 3 3 32400 1
+    ∷ exactly Blue 2 4 112788364464896727137570234476 2189617595734299877347325
+    ∷ exactly Blue 3 1 1738971848226556299354115191489 85002347424415591601248525
+    ∷ []
+
+abbrev pub exact₇ : ExactClaim
+exact₇ = givesExact frame₇ readings₇ values₇
+
 abbrev pub workedExact : List ExactClaim
-workedExact = exact₀ ∷ exact₁ ∷ exact₂ ∷ exact₃ ∷ []
+workedExact = exact₀ ∷ exact₁ ∷ exact₂ ∷ exact₃ ∷ exact₄ ∷ exact₅ ∷ exact₆ ∷ exact₇ ∷ []

@@ -2,7 +2,7 @@
 use mathlib.Core.Path.{_≡_, refl, sym, ap, ap₂, subst}
 use mathlib.Core.Bool.{Bool, _&&_}
 use mathlib.Core.List.{List}
-use Prim.Native.Nat.{ℕ, zero, suc, _≤_, _<_}
+use Prim.Native.Nat.{ℕ, zero, suc, _<_}
 use native.Mathlib.Omega.{arith}
 use native.Mathlib.Decide.{decLt}
 use lib.Dec.{T, eqb, eqb→eq}
@@ -37,13 +37,13 @@ module _ (f : Frame) (readings : List ℕ) (green : (i j : ℕ) → ℕ) where
   abbrev pub fromGreens : (k : Colour) (value : (i j : ℕ) → ℕ) → Bool
   fromGreens k value = all (f .height) (λ i. all (f .width) (λ j. eqb (sampleFrom f m greenAt k (pos i) (pos j)) (value i j)))
 
-  module _ (h : 2 ≤ f .height) (w : 2 ≤ f .width) (greens : T (planeIs f readings Green green)) where
+  module _ (greens : T (planeIs f readings Green green)) where
     green-is : (i j : ℕ) → i < f .height → j < f .width → ruleSample f readings Green i j ≡ green i j
     green-is i j hi hj = eqb→eq _ _ (at (f .width) _ (at (f .height) (λ i. all (f .width) (λ j. eqb (ruleSample f readings Green i j) (green i j))) greens i hi) j hj)
 
     sample-is : (k : Colour) (i j : ℕ) → i < f .height → j < f .width → ruleSample f readings k i j ≡ sampleFrom f m greenAt k (pos i) (pos j)
     unfolding sample
-    sample-is k i j hi hj = sampleFrom-inside f m h w _ greenAt green-is i j hi hj k
+    sample-is k i j hi hj = sampleFrom-inside f m _ greenAt green-is i j hi hj k
 
     plane-is : (k : Colour) (value : (i j : ℕ) → ℕ) → T (fromGreens k value) → T (planeIs f readings k value)
     plane-is k value t = subst T (sym (all-same (f .height) _ _ (λ i hi. all-same (f .width) _ _ (λ j hj. ap (λ x. eqb x (value i j)) (sample-is k i j hi hj))))) t

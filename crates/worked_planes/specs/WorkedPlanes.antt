@@ -1,4 +1,4 @@
--- Frames, one of each layout, and their planes by the whole-number rules. proofs/PlaneTable.antt has the theorem. Made by tools/make_figures.py 38 from reference/, stage A.5, and from nothing else. Assumes nothing.
+-- Frames, one of each layout and four small ones, and their planes by the whole-number rules. proofs/PlaneTable.antt has the theorem. Made by tools/make_figures.py 38 from reference/, stage A.6, and from nothing else. Assumes nothing.
 use Prim.Native.Nat.{ℕ}
 use mathlib.Core.List.{List, [], _∷_}
 use Rattle.bayer.specs.declared.frame.Frame.{Frame}
@@ -229,5 +229,137 @@ blue₃ =
 abbrev pub planes₃ : PlanesClaim
 planes₃ = givesPlanes frame₃ readings₃ red₃ green₃ blue₃
 
+abbrev pub frame₄ : Frame
+frame₄ = frame 2 2 0
+
+abbrev pub readings₄ : List ℕ
+readings₄ =
+    1756 ∷ 2610
+    ∷ 2420 ∷ 1961
+    ∷ []
+
+abbrev pub red₄ : List ℕ
+red₄ =
+    28096 ∷ 29616
+    ∷ 26576 ∷ 28096
+    ∷ []
+
+abbrev pub green₄ : List ℕ
+green₄ =
+    40240 ∷ 41760
+    ∷ 38720 ∷ 40240
+    ∷ []
+
+abbrev pub blue₄ : List ℕ
+blue₄ =
+    31376 ∷ 32896
+    ∷ 29856 ∷ 31376
+    ∷ []
+
+abbrev pub planes₄ : PlanesClaim
+planes₄ = givesPlanes frame₄ readings₄ red₄ green₄ blue₄
+
+abbrev pub frame₅ : Frame
+frame₅ = smoothed 2 3 3 0
+
+abbrev pub readings₅ : List ℕ
+readings₅ =
+    1746 ∷ 1046
+    ∷ 2749 ∷ 1316
+    ∷ 2716 ∷ 2319
+    ∷ []
+
+abbrev pub red₅ : List ℕ
+red₅ =
+    12084 ∷ 2340
+    ∷ 29588 ∷ 21056
+    ∷ 30028 ∷ 22708
+    ∷ []
+
+abbrev pub green₅ : List ℕ
+green₅ =
+    26480 ∷ 16736
+    ∷ 43984 ∷ 35452
+    ∷ 44424 ∷ 37104
+    ∷ []
+
+abbrev pub blue₅ : List ℕ
+blue₅ =
+    27936 ∷ 18192
+    ∷ 44228 ∷ 35696
+    ∷ 43456 ∷ 36136
+    ∷ []
+
+abbrev pub planes₅ : PlanesClaim
+planes₅ = givesPlanes frame₅ readings₅ red₅ green₅ blue₅
+
+abbrev pub frame₆ : Frame
+frame₆ = smoothed 3 2 1 1
+
+abbrev pub readings₆ : List ℕ
+readings₆ =
+    1583 ∷ 2349 ∷ 1555
+    ∷ 2477 ∷ 2185 ∷ 1755
+    ∷ []
+
+abbrev pub red₆ : List ℕ
+red₆ =
+    32880 ∷ 37584 ∷ 32432
+    ∷ 40584 ∷ 42512 ∷ 34584
+    ∷ []
+
+abbrev pub green₆ : List ℕ
+green₆ =
+    25328 ∷ 30032 ∷ 24880
+    ∷ 33032 ∷ 34960 ∷ 27032
+    ∷ []
+
+abbrev pub blue₆ : List ℕ
+blue₆ =
+    31928 ∷ 33856 ∷ 25928
+    ∷ 39632 ∷ 38784 ∷ 28080
+    ∷ []
+
+abbrev pub planes₆ : PlanesClaim
+planes₆ = givesPlanes frame₆ readings₆ red₆ green₆ blue₆
+
+abbrev pub frame₇ : Frame
+frame₇ = smoothed 5 4 2 1
+
+abbrev pub readings₇ : List ℕ
+readings₇ =
+    1865 ∷ 1940 ∷ 2801 ∷ 2563 ∷ 1870
+    ∷ 1497 ∷ 2182 ∷ 2404 ∷ 1062 ∷ 2102
+    ∷ 2199 ∷ 1035 ∷ 2615 ∷ 2556 ∷ 2632
+    ∷ 1805 ∷ 2083 ∷ 2779 ∷ 2025 ∷ 1589
+    ∷ []
+
+abbrev pub red₇ : List ℕ
+red₇ =
+    23462 ∷ 39737 ∷ 44092 ∷ 24774 ∷ 27351
+    ∷ 23952 ∷ 31361 ∷ 38464 ∷ 15346 ∷ 33632
+    ∷ 29180 ∷ 26003 ∷ 40990 ∷ 29511 ∷ 38991
+    ∷ 28880 ∷ 30024 ∷ 44464 ∷ 30075 ∷ 25424
+    ∷ []
+
+abbrev pub green₇ : List ℕ
+green₇ =
+    29840 ∷ 43288 ∷ 44816 ∷ 26420 ∷ 29920
+    ∷ 30330 ∷ 34912 ∷ 39188 ∷ 16992 ∷ 36201
+    ∷ 35184 ∷ 29430 ∷ 41840 ∷ 31497 ∷ 42112
+    ∷ 34511 ∷ 33328 ∷ 45441 ∷ 32400 ∷ 29098
+    ∷ []
+
+abbrev pub blue₇ : List ℕ
+blue₇ =
+    17592 ∷ 31040 ∷ 45986 ∷ 41008 ∷ 44508
+    ∷ 17771 ∷ 22353 ∷ 38905 ∷ 28986 ∷ 48195
+    ∷ 22314 ∷ 16560 ∷ 40105 ∷ 40896 ∷ 51511
+    ∷ 21641 ∷ 20458 ∷ 43706 ∷ 41799 ∷ 38497
+    ∷ []
+
+abbrev pub planes₇ : PlanesClaim
+planes₇ = givesPlanes frame₇ readings₇ red₇ green₇ blue₇
+
 abbrev pub workedPlanes : List PlanesClaim
-workedPlanes = planes₀ ∷ planes₁ ∷ planes₂ ∷ planes₃ ∷ []
+workedPlanes = planes₀ ∷ planes₁ ∷ planes₂ ∷ planes₃ ∷ planes₄ ∷ planes₅ ∷ planes₆ ∷ planes₇ ∷ []

@@ -1,13 +1,10 @@
 -- `green_row::extend::edge` meets its contract. Assumes nothing.
 use Prim.Native.Nat.{ℕ, _+_, _-_, _<_, _≤_}
-use native.Mathlib.Decide.{decLe}
 use native.Mathlib.Omega.{arith}
 use mathlib.Core.Path.{refl, ap, _∙_}
-use lib.IntN.{subℕ}
 use lib.ListN.{length, getD}
 use Rattle.lists.proofs.TableLaws.{Filled, table-none, table-turn, table-done}
-use Rattle.bayer.specs.Mirror.{mirror}
-use Rattle.bayer.proofs.MirrorLaws.{mirror-inside, mirror-above, mirror-below, mirror-from}
+use Rattle.bayer.proofs.MirrorLaws.{mirror-lt}
 use Rattle.green_row.specs.Extended.{column}
 use Rattle.green_row.proofs.extend.edge.Statement.{statement}
 use Rattle.green_row.proofs.extend.edge.Tie as tie
@@ -22,18 +19,8 @@ loop-holds : tie.Need-loop-holds Inv-loop μ-loop
 loop-holds c = (omega arith, (table-none _ _, refl))
 
 -- what is read lies inside the row
-inside : (size at : ℕ) → 8 ≤ size → mirror size (subℕ at 7) < size
-inside size at h =
-    elim (decLe 7 at) [
-      | no l ↦ rw (mirror-below size at 7 (omega arith)) (omega arith)
-      | yes l ↦ elim (decLe size (at - 7)) [
-        | yes k ↦ rw (mirror-from size at 7 l, mirror-above size (at - 7) k) (omega arith)
-        | no k ↦ rw (mirror-from size at 7 l, mirror-inside size (at - 7) (omega arith)) (omega arith)
-      ]
-    ]
-
 read : (c : tie.After-mirror Inv-loop μ-loop) → c .mirror .result < length (c .before .before .before .before .before .args .row .now)
-read c = rw (c .mirror .ensures) (inside _ (c .before .before .before .before .before .args .from + c .before .before .loop .k) (c .before .before .before .before .before .pre .0))
+read c = rw (c .mirror .ensures) (mirror-lt _ _ (omega arith))
 
 add-mirror : tie.Need-add-mirror Inv-loop μ-loop
 add-mirror c = omega arith
