@@ -53,7 +53,7 @@ enum {
 
 /* The rows of the mosaic that a strip of `rows` rows from `first_row` on is lent: rokzimp_piece_rows rows from row
  * rokzimp_piece_start on. That is from max(0, first_row - 7) to min(height, first_row + rows + 7) - 1, nothing wrapped; no rows
- * where that is none. */
+ * where that is none. For a strip of a frame of at most 8 rows it is the whole frame. */
 size_t rokzimp_piece_start(size_t first_row);
 size_t rokzimp_piece_rows(size_t height, size_t first_row, size_t rows);
 

@@ -58,6 +58,7 @@ import re
 import sys
 import unittest.mock
 
+from make_figures import edge_repeated, reflected_once
 from stage import ROOT, RULES, STAGE
 import reference as r
 import vectors
@@ -244,16 +245,6 @@ def inward(direction):
     return unittest.mock.patch.object(r.Work, 'five_sums', wrong)
 
 
-# mirrors that are nearly right
-def edge_repeated(p, size):
-    return edge_repeated(-p - 1, size) if p < 0 else edge_repeated(2 * size - 1 - p, size) if p >= size else p
-
-
-def reflected_once(p, size):
-    p = -p if p < 0 else 2 * (size - 1) - p if p >= size else p
-    return min(max(p, 0), size - 1)
-
-
 # ------------------------------------------------------------ cases
 class Maker:
     def __init__(self, seed):
@@ -296,8 +287,8 @@ class Maker:
             return Recipe(base=g.choice((0, 4095)), from_=g.randrange(W + H), step=4095, checker=g.randrange(4096), shape=1)
         return Recipe(checker=g.randrange(4096), oddrow=g.randrange(4096), oddcol=g.randrange(4096), amount=g.randrange(50), shape=1)
 
-    def textured(self, W, H):
-        """No two rows or columns alike, and few samples stopped."""
+    def textured(self):
+        """Noise everywhere, and few samples stopped."""
         g = self.g
         return Recipe(base=g.randrange(500, 1500), oddrow=g.randrange(400), oddcol=g.randrange(400), amount=g.randrange(200, 1500), shape=g.choice((0, 2)))
 
@@ -336,7 +327,7 @@ class Maker:
 
     def size(self, top=40):
         g = self.g
-        return g.choice((LEAST, g.randrange(LEAST, 10), g.randrange(8, 20), g.randrange(8, top + 1)))
+        return g.choice((g.randrange(LEAST, 8), 8, 9, g.randrange(8, 20), g.randrange(8, top + 1)))
 
     def accepted(self, count):
         self.note('strips of frames of %d to 40 rows and columns, cut anywhere' % LEAST)
@@ -355,19 +346,16 @@ class Maker:
 
     def small(self):
         self.note('every strip of frames of %d to 9 rows and columns' % LEAST)
-        wrongs = edge_repeated, reflected_once
-        told, asked = [0] * len(wrongs), [0] * len(wrongs)          # how many cases would show each wrong mirror, and how many could
         for W in range(LEAST, 10):
             for H in range(LEAST, 10):
+                # the rules read at most 6 outside, so of 7 and more one reflection is enough
+                wrongs = (edge_repeated, reflected_once) if min(W, H) < 7 else (edge_repeated,)
                 for layout in range(4):
-                    right = self.strip(W, H, layout, 0, H, self.textured(W, H), [], kind='C')
+                    right = self.strip(W, H, layout, 0, H, self.textured(), [], kind='C')
                     line = list(map(int, self.lines[-1].split()[1:]))
-                    for k, wrong in enumerate(wrongs):
-                        if wrong is edge_repeated or min(W, H) < 8:
-                            asked[k] += 1
-                            with unittest.mock.patch.object(r, 'mirror', wrong):
-                                told[k] += answer_C(line) != right
-        assert all(10 * t > 9 * n for t, n in zip(told, asked)), (told, asked)
+                    for wrong in wrongs:
+                        with unittest.mock.patch.object(r, 'mirror', wrong):
+                            assert answer_C(line) != right, (W, H, layout, wrong)
 
     def smoothings(self, count):
         g = self.g
@@ -394,22 +382,30 @@ class Maker:
     def wide_and_tall(self):
         g = self.g
         self.note('wide and tall frames; sizes %d and 4096' % LEAST)
-        for W, H, a, n in ((4096, LEAST, 0, LEAST), (4096, LEAST, LEAST - 1, 1), (4096, 9, 3, 2), (4095, 22, 7, 2), (4096, 30, 11, 8), (4096, 4096, 2000, 1),
+        for W, H, a, n in ((4096, LEAST, 0, LEAST), (4096, LEAST, LEAST - 1, 1), (4096, 8, 0, 8), (4096, 9, 3, 2), (4095, 22, 7, 2), (4096, 30, 11, 8), (4096, 4096, 2000, 1),
                            (4096, 4096, 4095, 1), (4096, 4096, 0, 2), (1025, 13, 5, 4), (2047, 8, 2, 3),
-                           (LEAST, 4096, 0, 4096), (LEAST, 4096, 4095, 1), (LEAST, 4096, 4000, 96), (9, 4096, 1234, 30), (8, 4095, 4090, 5), (33, 901, 450, 20)):
+                           (LEAST, 4096, 0, 4096), (LEAST, 4096, 4095, 1), (LEAST, 4096, 4000, 96), (8, 4096, 0, 4096), (9, 4096, 1234, 30), (8, 4095, 4090, 5), (33, 901, 450, 20)):
             assert self.strip(W, H, g.randrange(4), a, n)[0] == 0
 
-    def figures(self):
+    def limits(self):
         off, least = LEAST - 1, LEAST
-        self.note('sizes %d, %d, 4096, 4097; readings 4095 and 4096' % (off, least))
+        self.note('sizes %d, %d, 4096, 4097: strips, mosaics back, views, test frames and rows' % (off, least))
         for W, H in ((off, least), (least, off), (4097, least), (least, 4097), (off, 4097), (least, least), (least, 4096), (4096, least)):
+            number = int(off in (W, H) or 4097 in (W, H))
             for L in range(4):
-                inside = off not in (W, H) and 4097 not in (W, H)
-                a, n = (0, 1) if inside else (0, 2)
-                assert self.strip(W, H, L, a, n)[0] == (0 if inside else 1)
+                assert self.strip(W, H, L, 0, 1)[0] == number
+                assert self.mosaic(W, H, L, 0, 1)[0] == number
+                assert self.add('Q', W, H, L, 0, W, W)[0] == number
+            assert self.add('V', W, 0, W)[0] == (W in (off, 4097))
+            assert self.frame(self.g.randrange(M32), W, H, W * H)[0] == number
+            assert self.row(self.g.randrange(M32), W, H, 0, W)[0] == number
+
+    def figures(self):
+        self.note('readings 4095 and 4096')
         for v, num in ((4095, 0), (4096, 6), (65535, 6)):
             for at in (0, 8 * 8 - 1, 8 * 4 + 3):
                 assert self.strip(8, 8, self.g.randrange(4), 0, 8, puts=[(at, v)])[0] == num
+            assert self.strip(LEAST, LEAST, self.g.randrange(4), 0, LEAST, puts=[(LEAST * LEAST - 1, v)])[0] == num
         self.note('the three strips of the rule, and off by one row or one reading')
         for a, n, rows in ((9, 2, 16), (0, 1, 8), (19, 1, 8)):
             for W in (8, 13):
@@ -456,8 +452,8 @@ class Maker:
             true = (W, H, a, n)
             t = k % 7
             if t == 0: L = g.choice((4, 5, 255))
-            if t == 1: W = g.choice([0, 1, LEAST - 1, 4097] + BIG)
-            if t == 2: H = g.choice([0, 1, LEAST - 1, 4097] + BIG)
+            if t == 1: W = g.choice([0, LEAST - 1, 4097] + BIG)
+            if t == 2: H = g.choice([0, LEAST - 1, 4097] + BIG)
             if t == 3: n = g.choice([0, H - a + 1] + BIG)
             if t == 4: a = g.choice([H - n + 1, H] + BIG)
             if t == 5: a, n = g.choice(((2 ** 64 - 1, 1), (2 ** 64 - 1, 2), (2 ** 64 - n, n), (1, 2 ** 64 - 1), (a, 2 ** 64 - max(a, 1)),
@@ -511,7 +507,8 @@ class Maker:
             W, H = self.size(), self.size()
             a, n = self.cut(H)
             assert self.mosaic(W, H, k % 4, a, n, bits=g.choice((0, 0, 4095)))[0] == 0
-        for W, H, a, n in ((4096, LEAST, 0, LEAST), (4096, 4096, 4095, 1), (4096, 30, 11, 8), (LEAST, 4096, 0, 4096), (LEAST, 4096, 1, 4095), (4095, 9, 3, 2)):
+        for W, H, a, n in ((4096, LEAST, 0, LEAST), (4096, 8, 0, 8), (4096, 4096, 4095, 1), (4096, 30, 11, 8), (LEAST, 4096, 0, 4096), (LEAST, 4096, 1, 4095),
+                           (8, 4096, 0, 4096), (4095, 9, 3, 2)):
             assert self.mosaic(W, H, g.randrange(4), a, n)[0] == 0
         self.note('and of planes that strip calls left')
         for k in range(40):
@@ -598,7 +595,7 @@ class Maker:
             W, H = self.size(), self.size()
             assert self.frame(g.randrange(M32), W, H, W * H)[0] == 0
             assert self.frame(g.randrange(M32), W, H, g.choice((W * H + 1, W * H - 1, W * H + W, W * (H - 1), 0)))[0] == 5
-            off = g.choice([0, 1, LEAST - 1, 4097] + BIG)
+            off = g.choice([0, LEAST - 1, 4097] + BIG)
             assert self.frame(g.randrange(M32), *g.choice(((off, H), (W, off), (off, off))), g.choice((W * H, 0)))[0] == 1
 
     def test_rows(self, count):
@@ -617,7 +614,7 @@ class Maker:
             W, H = self.size(), g.choice((self.size(), 4096))
             inside, outside = g.randrange(H), g.choice([H, H + 1] + BIG)
             other = g.choice((W + 1, W - 1, 2 * W, 0))
-            off = g.choice([0, 1, LEAST - 1, 4097] + BIG)
+            off = g.choice([0, LEAST - 1, 4097] + BIG)
             assert self.row(g.randrange(M32), W, H, inside, W)[0] == 0
             assert self.row(g.randrange(M32), W, H, outside, g.choice((W, other)))[0] == 3
             assert self.row(g.randrange(M32), W, H, inside, other)[0] == 5
@@ -699,8 +696,9 @@ def main():
     where = sys.argv[2] if len(sys.argv) > 2 else os.path.join(ROOT, 'crates', 'cases')
     m = Maker(seed)
     m.note('made by tools/make_cases.py %d, which says what each line means' % seed)
+    m.limits()
     m.figures()
-    m.accepted(400)
+    m.accepted(500)
     m.small()
     m.cuts()
     m.smoothings(24)
@@ -713,7 +711,7 @@ def main():
     m.partner_views(240)
     m.fusions(600)
     m.pieces(120)
-    m.mosaics(120)
+    m.mosaics(200)
     m.off_camera(60)
     m.mosaics_refused(80)
     m.jumps(60)

@@ -7,8 +7,8 @@ The values come from reference/ and from nothing else; the stage is tools/stage.
 direction sums lie about the guard, a part is mild, and a part is wild, so that samples are stopped. Two of them are smoothed evenly,
 one names smoothing 1 and one none. A seed is taken only if the exact table has every kind of place, exact greens at red and at blue
 pixels for either smoothing among them, and if a guard one less or one more would change some green.
-Four more frames are small: 2 by 2, 2 by 3 and 3 by 2, of which every exact value is in the table, and 5 by 4. They are taken only if each
-would have another sample with mirrors that repeat an edge.
+Four more frames are small: 2 by 2, 2 by 3 and 3 by 2, of which an exact value of each plane is in the table, and 5 by 4. They are taken only if each
+would have another sample with mirrors that repeat an edge, and with mirrors that reflect once only.
 """
 import os
 import random
@@ -92,9 +92,9 @@ def places(g, f, exact):
     return {kind: g.choice(best[kind]) for kind in sorted(best)}
 
 
-def every_place(f):
-    """Those that are not observed."""
-    return [(k, i, j) for k in range(3) for i in range(f.H) for j in range(f.W) if site(f, k, i, j) != 'observed']
+def last_places(f):
+    """The last of each plane that is not observed."""
+    return [max((k, i, j) for i in range(f.H) for j in range(f.W) if site(f, k, i, j) != 'observed') for k in range(3)]
 
 
 # ------------------------------------------------------------ the files
@@ -129,8 +129,14 @@ def shows(what, wrong, f, frame):
         return r.whole(RULES, f, frame) != right
 
 
+# mirrors that are nearly right
 def edge_repeated(p, size):
     return edge_repeated(-p - 1, size) if p < 0 else edge_repeated(2 * size - 1 - p, size) if p >= size else p
+
+
+def reflected_once(p, size):
+    p = -p if p < 0 else 2 * (size - 1) - p if p >= size else p
+    return min(max(p, 0), size - 1)
 
 
 def fitting(frames):
@@ -138,7 +144,8 @@ def fitting(frames):
     for value in 3, 5:
         assert any(shows('guard', lambda s: max(s, value), *frame) for frame in frames), 'no sample of this seed tells a guard of 4 from one of %d' % value
     for frame in frames[len(FRAMES):]:
-        assert shows('mirror', edge_repeated, *frame), 'no sample of a small frame tells that an edge is repeated'
+        for wrong in edge_repeated, reflected_once:
+            assert shows('mirror', wrong, *frame), 'no sample of a small frame tells %s' % wrong.__name__
 
 
 def named(f):
@@ -170,13 +177,10 @@ def make(seed, directory):
             planes += cells(f, name.lower() + n, plane)
         planes += claim('planes' + n, 'PlanesClaim', 'givesPlanes frame%s readings%s red%s green%s blue%s' % (n, n, n, n, n))
         values = r.exact_planes(RULES, f, frame)
-        if f.W * f.H <= 6:
-            chosen = every_place(f)
-        else:
-            by_kind = places(g, f, values)
-            kinds.update(by_kind)
-            greens.update((f.choice == 0, kind) for kind in by_kind if kind in (('Red', r.G), ('Blue', r.G)))
-            chosen = by_kind.values()
+        by_kind = places(g, f, values) if f.W * f.H > 6 else {}
+        kinds.update(by_kind)
+        greens.update((f.choice == 0, kind) for kind in by_kind if kind in (('Red', r.G), ('Blue', r.G)))
+        chosen = by_kind.values() or last_places(f)
         exact += ['', 'abbrev pub values%s : List Value' % n, 'values%s =' % n] + lines(
             'exactly %s %d %d %d %d' % (PLANES[k], i, j, x.numerator, x.denominator) for k, i, j in sorted(chosen) for x in [values[k][i * f.W + j]])
         exact += claim('exact' + n, 'ExactClaim', 'givesExact frame%s readings%s values%s' % (n, n, n))

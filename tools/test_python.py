@@ -156,11 +156,13 @@ class Test(unittest.TestCase):
     def test_views_refused(self):
         plane, other = samples(range(80)), samples(range(80, 152))
         self.refused(1, row_view, plane, 1, 0)
+        self.refused(1, row_view, plane, 4097, 0)
         self.refused(7, row_view, plane, 8, 10)
         self.refused(7, row_view, plane, 8, -1)
         self.refused(7, row_view, plane, 8, 2 ** 61)
         self.refused(7, row_view, b"", 8, 0)
         self.refused(1, partner_view, plane, other, 8, 1, 0, 0)
+        self.refused(1, partner_view, plane, other, 8, 4097, 0, 0)
         self.refused(2, partner_view, plane, other, 8, 8, 4, 0)
         self.refused(7, partner_view, plane, other, 8, 8, 0, 8)
         self.refused(7, partner_view, plane, other, 8, 10, 0, 9)
@@ -242,12 +244,13 @@ class Test(unittest.TestCase):
                 plane[8 * row] = 1000 + row
                 self.assertEqual(view.tolist(), plane[8 * row:8 * row + 8].tolist())
         self.assertTrue(row_view(bytes(16), 8, 0).readonly)
+        self.assertEqual((row_view(blue, 2, 39).tolist(), partner_view(red, blue, 2, 2, 0, 1).tolist()), (blue[78:].tolist(), blue[2:4].tolist()))
 
     # strips
 
     def test_any_height_of_strips(self):
         rng = random.Random(2)
-        for width, height in ((8, 8), (13, 31), (20, 24)):
+        for width, height in ((8, 8), (13, 31), (20, 24), (2, 2), (3, 5)):
             mosaic, layout = random_mosaic(rng, width * height), rng.randrange(4)
             wanted = whole_frame(width, height, layout, mosaic, strip_height=height)
             even = whole_frame(width, height, layout, mosaic, strip_height=height, smoothing=0)
@@ -509,8 +512,8 @@ class Test(unittest.TestCase):
                     self.assertEqual(mosaic_back(width, height, layout, 0, height, *got), mosaic)
 
     def test_reference_strips(self):
-        rng = random.Random(5)
-        for k in range(300):
+        rng, seen = random.Random(5), set()
+        for k in range(600):
             width, height, layout = rng.randrange(1, 14), rng.randrange(1, 30), rng.randrange(5)
             first, rows = rng.randrange(height + 2), rng.randrange(5)
             lengths = [max(0, rows * width + rng.choice((0, 0, 0, 0, 0, 0, 0, 1, -1))) for _ in range(3)]
@@ -527,6 +530,8 @@ class Test(unittest.TestCase):
             except Refused as refused:
                 self.assertEqual(number, refused.number)
             self.assertEqual([p.tolist() for p in got], wanted)
+            seen.add(number)
+        self.assertEqual(seen, {0, 1, 2, 3, 4, 5, 6, 10})
 
     def test_reference_mosaic_back(self):
         rng, seen = random.Random(12), set()
@@ -672,8 +677,8 @@ class Test(unittest.TestCase):
             self.assertEqual(self.run_seed(*words), (2, b"", None))
 
     def example(self):
-        """What the README's C example prints, by reference.py: a test frame, one strip of it with no smoothing named and evenly smoothed, and
-        the strip's first reading, which comes back."""
+        """What the README's C example prints, by reference.py: a test frame, one strip of it with no smoothing named and evenly smoothed,
+        the strip's first reading, which comes back, and a frame of 2 by 2."""
         mosaic, planes = [0] * 320, [[0] * 32 for _ in range(3)]
         first, last = reference.strip_rows(20, 9, 2)
         self.assertEqual(reference.walk(RULES, 0, 16, 20, mosaic), 0)
@@ -681,7 +686,10 @@ class Test(unittest.TestCase):
         for smoothing in (None, 0):
             self.assertEqual(reference.strip_call(RULES, reference.Frame(16, 20, 0, smoothing), 9, 2, mosaic[16 * first:16 * last], planes), 0)
             filled.append("0 %d %d %d" % tuple(plane[0] for plane in planes))
-        return ["0 %d" % mosaic[0], *filled, "0 %d %d" % (mosaic[144], mosaic[144])]
+        small, frame = [0] * 4, reference.Frame(2, 2, 0)
+        self.assertEqual(reference.walk(RULES, 0, 2, 2, small), 0)
+        smallest = [plane[0] for plane in reference.whole(RULES, frame, small)]
+        return ["0 %d" % mosaic[0], *filled, "0 %d %d" % (mosaic[144], mosaic[144]), "0 %d %d %d" % tuple(smallest)]
 
     def test_readme(self):
         """The README's C, Python, picture and frame file examples do what it says, and its printed lines are the committed ones."""
@@ -705,7 +713,7 @@ class Test(unittest.TestCase):
             subprocess.run(["gcc", "-I", os.path.join(ROOT, "include"), "-o", binary, source, library], check=True)
             self.assertEqual(subprocess.run([binary], capture_output=True, check=True).stdout.decode().splitlines(), printed)
             ran = subprocess.run([sys.executable, "-c", script], capture_output=True, check=True, cwd=ROOT)
-            self.assertEqual(ran.stdout, b"966 True\n7682 9032\nTrue\n7 no such row\n")
+            self.assertEqual(ran.stdout, b"966 True\n7682 9032\nTrue\n[35976, 18256, 53696, 35976]\n7 no such row\n")
             frame = os.path.join(ROOT, "crates", "planes", "stdin")
             subprocess.run([os.path.join(ROOT, "tools", "frame_to_png.py"), frame, out], check=True)
             with open(out + ".red", "rb") as file:

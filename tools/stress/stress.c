@@ -76,7 +76,7 @@ static void same(const char *what, uint64_t got, uint64_t asked) {
 static uint64_t size(void) {
     static const uint64_t edge[] = {LEAST - 1, LEAST, LEAST + 1, 8, 9, 10, 11, 14, 15, 16, 17, 63, 64, 65, 4095, 4096};
     if (one_in(3)) return edge[below(sizeof edge / sizeof *edge)];
-    if (one_in(3)) return LEAST + below(8);
+    if (one_in(6)) return LEAST + below(8);
     if (one_in(8)) return LEAST + below(4097 - LEAST);
     return LEAST + below(60);
 }

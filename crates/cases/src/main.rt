@@ -4,13 +4,13 @@ ghost use Prim.Native.Nat.{_<_};
 ghost use lib.ListN.{length};
 use crate::fields::Fields;
 
-mod cuts_case;
 mod fields;
 mod fusion_case;
 mod mosaic_case;
 mod piece_case;
 mod print;
 mod recipe;
+mod small_case;
 mod strip_case;
 mod test_case;
 mod view_case;
@@ -21,7 +21,7 @@ fn answer(letter: u8, f: &Fields) {
         strip_case::run(f);
     }
     if letter == b'C' {
-        cuts_case::run(f);
+        small_case::run(f);
     }
     if letter == b'M' {
         mosaic_case::run(f);

@@ -3,7 +3,6 @@ use Prim.Native.Nat.{ℕ, _+_, _*_, _-_, _≤_, _<_}
 use mathlib.Core.Path.{_≡_, refl, sym, ap, ap₂, _∙_}
 use mathlib.Core.Bool.{Bool, true, false, not, cond}
 use mathlib.Core.List.{List, [], _∷_}
-use native.Mathlib.Omega.{arith}
 use lib.IntN.{ℤ, pos, _+ℤ_, _-ℤ_}
 use lib.ListN.{length, getD}
 use Rattle.lists.specs.Part.{rowOf}
@@ -85,22 +84,22 @@ module _ (f : Frame) (first : ℕ) (rows : List ℕ) (G : (i j : ℤ) → ℕ) (
     -- the differences at the pixels that are read for row i, left and right of this one, and at its own column
     module _ {r : ℕ} (i : ℤ) (p : Read (f .height) r i) where
       left : colourDifferenceAt (row r) (greens r) (leftOf (f .width) j) ≡ differenceOf (mirror (f .height) i) (mirror (f .width) (pos j -ℤ pos 1))
-      left = colour-difference-at i (pos j -ℤ pos 1) p (before-read (f .width) j wide hj)
+      left = colour-difference-at i (pos j -ℤ pos 1) p (before-read (f .width) j hj)
 
       level : colourDifferenceAt (row r) (greens r) j ≡ differenceOf (mirror (f .height) i) (mirror (f .width) (pos j))
-      level = colour-difference-at i (pos j) p (at-read (f .width) j wide hj)
+      level = colour-difference-at i (pos j) p (at-read (f .width) j hj)
 
       right : colourDifferenceAt (row r) (greens r) (rightOf (f .width) j) ≡ differenceOf (mirror (f .height) i) (mirror (f .width) (pos j +ℤ pos 1))
-      right = colour-difference-at i (pos j +ℤ pos 1) p (after-read (f .width) j wide hj)
+      right = colour-difference-at i (pos j +ℤ pos 1) p (after-read (f .width) j hj)
 
     abbrev row-above : Read (f .height) above (pos v -ℤ pos 1)
-    row-above = before-read (f .height) v high hv
+    row-above = before-read (f .height) v hv
 
     abbrev row-here : Read (f .height) v (pos v)
-    row-here = at-read (f .height) v high hv
+    row-here = at-read (f .height) v hv
 
     abbrev row-below : Read (f .height) below (pos v +ℤ pos 1)
-    row-below = next-read (f .height) v high hv
+    row-below = next-read (f .height) v hv
 
     pub own-is : ownIn (f .width) odd (row v) (greens v) j ≡ otherFrom f m G own (pos v) (pos j)
     unfolding ownIn

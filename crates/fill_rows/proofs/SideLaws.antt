@@ -18,7 +18,7 @@ after-inside size p h = sym (ap (mirror size) (sub-pos (p + 1) 0 (p + 1) (omega 
 abbrev pub Read : (size n : ℕ) (z : ℤ) → Type 0
 Read size n z = (n ≡ mirror size z) × (n < size)
 
-module _ (size p : ℕ) (h : 2 ≤ size) (k : p < size) where
+module _ (size p : ℕ) (k : p < size) where
   pub at-read : Read size p (pos p)
   at-read = (sym (mirror-inside size p k), k)
 

@@ -87,13 +87,8 @@ exact₃ = givesExact frame₃ readings₃ values₃
 
 abbrev pub values₄ : List Value
 values₄ =
-    exactly Red 0 1 29616 1
-    ∷ exactly Red 1 0 26576 1
-    ∷ exactly Red 1 1 28096 1
-    ∷ exactly Green 0 0 40240 1
+    exactly Red 1 1 28096 1
     ∷ exactly Green 1 1 40240 1
-    ∷ exactly Blue 0 0 31376 1
-    ∷ exactly Blue 0 1 32896 1
     ∷ exactly Blue 1 0 29856 1
     ∷ []
 
@@ -102,17 +97,8 @@ exact₄ = givesExact frame₄ readings₄ values₄
 
 abbrev pub values₅ : List Value
 values₅ =
-    exactly Red 0 0 12084 1
-    ∷ exactly Red 0 1 2340 1
-    ∷ exactly Red 1 0 29588 1
-    ∷ exactly Red 2 0 30028 1
-    ∷ exactly Red 2 1 22708 1
-    ∷ exactly Green 0 0 26480 1
-    ∷ exactly Green 1 1 35452 1
+    exactly Red 2 1 22708 1
     ∷ exactly Green 2 0 44424 1
-    ∷ exactly Blue 0 1 18192 1
-    ∷ exactly Blue 1 0 44228 1
-    ∷ exactly Blue 1 1 35696 1
     ∷ exactly Blue 2 1 36136 1
     ∷ []
 
@@ -121,17 +107,8 @@ exact₅ = givesExact frame₅ readings₅ values₅
 
 abbrev pub values₆ : List Value
 values₆ =
-    exactly Red 0 0 32880 1
-    ∷ exactly Red 0 2 32432 1
-    ∷ exactly Red 1 0 40584 1
-    ∷ exactly Red 1 1 42512 1
-    ∷ exactly Red 1 2 34584 1
-    ∷ exactly Green 0 1 30032 1
-    ∷ exactly Green 1 0 33032 1
+    exactly Red 1 2 34584 1
     ∷ exactly Green 1 2 27032 1
-    ∷ exactly Blue 0 0 31928 1
-    ∷ exactly Blue 0 1 33856 1
-    ∷ exactly Blue 0 2 25928 1
     ∷ exactly Blue 1 1 38784 1
     ∷ []
 

@@ -30,11 +30,16 @@ mirror-returns t c = sym (mirror-few _ _ (c .if1 .taken))
 mirror-mirror-requires :
     (t : ℕ) →
     mirror-lts.Need-mirror-requires (mirror-below t, mirror.Post) (mirror-at t) mirror.Post
-mirror-mirror-requires t c κs = let s = c .before .before in (falls-below (s .args .size) (s .args .at) (s .args .lead) _ (s .args .at) (c .before .if1 .left) (c .if2 .taken) (s .pre .0) (omega arith), s .pre .1)
+mirror-mirror-requires t c κs =
+    let s = c .before .before in
+    let a = s .args in
+    (falls-below (a .size) (a .at) (a .lead) _ (a .at) (c .before .if1 .left) (c .if2 .taken) (s .pre .0) (omega arith), s .pre .1)
 
 mirror-returns-2 :
     (t : ℕ) → mirror-lts.Need-returns-2 (mirror-below t, mirror.Post) (mirror-at t) mirror.Post
-mirror-returns-2 t c = let a = c .before .before .before .args in reads-below (a .size) (a .at) (a .lead) _ (a .at) (c .before .before .if1 .left) (c .before .if2 .taken) (c .mirror .ensures) (omega arith)
+mirror-returns-2 t c =
+    let a = c .before .before .before .args in
+    reads-below (a .size) (a .at) (a .lead) _ (a .at) (c .before .before .if1 .left) (c .before .if2 .taken) (c .mirror .ensures) (omega arith)
 
 mirror-returns-3 :
     (t : ℕ) → mirror-lts.Need-returns-3 (mirror-below t, mirror.Post) (mirror-at t) mirror.Post
@@ -52,11 +57,16 @@ mirror-mirror-requires-2 : (t : ℕ) → mirror-lts.Need-mirror-requires-2 (
   mirror-below t,
   mirror.Post,
 ) (mirror-at t) mirror.Post
-mirror-mirror-requires-2 t c κs = let s = c .before .before .before in (falls-above (s .args .size) (s .args .at) (s .args .lead) _ (s .args .at - s .args .lead - (s .args .size - 1)) (c .before .before .if1 .left) (omega arith) (s .pre .0) (omega arith), s .pre .1)
+mirror-mirror-requires-2 t c κs =
+    let s = c .before .before .before in
+    let a = s .args in
+    (falls-above (a .size) (a .at) (a .lead) _ (a .at - a .lead - (a .size - 1)) (c .before .before .if1 .left) (omega arith) (s .pre .0) (omega arith), s .pre .1)
 
 mirror-returns-4 :
     (t : ℕ) → mirror-lts.Need-returns-4 (mirror-below t, mirror.Post) (mirror-at t) mirror.Post
-mirror-returns-4 t c = let a = c .before .before .before .before .args in reads-above (a .size) (a .at) (a .lead) _ (a .at - a .lead - (a .size - 1)) (c .before .before .before .if1 .left) (omega arith) (c .mirror2 .ensures) (omega arith)
+mirror-returns-4 t c =
+    let a = c .before .before .before .before .args in
+    reads-above (a .size) (a .at) (a .lead) _ (a .at - a .lead - (a .size - 1)) (c .before .before .before .if1 .left) (omega arith) (c .mirror2 .ensures) (omega arith)
 
 pub +mirror-spec : {M : Type 1} → statement M
 +mirror-spec =

@@ -1,10 +1,10 @@
--- `cases::cuts_case::strips` is safe and ends. Assumes nothing.
+-- `cases::small_case::strips` is safe and ends. Assumes nothing.
 use Prim.Native.Nat.{_≤_, _-_}
 use mathlib.Core.Path.{_≡_}
 use borrow.Author.Needs.{needs}
 use lib.ListN.{length}
-use Rattle.cases.proofs.cuts_case.strips.Statement.{statement}
-use Rattle.cases.proofs.cuts_case.strips.Tie as tie
+use Rattle.cases.proofs.small_case.strips.Statement.{statement}
+use Rattle.cases.proofs.small_case.strips.Tie as tie
 
 abbrev Inv-loop : tie.InvT-loop
 Inv-loop f mosaic red₀ green₀ blue₀ at₀ k₀ red green blue at k =
