@@ -30,7 +30,7 @@ mirror-returns : (t : ℕ) → mirror-lts.Need-returns (
   mirror-below t,
   mirror.Post,
 ) (mirror-at t) mirror.Post
-mirror-returns t c = sym (mirror-few _ _ (c .if1 .taken))
+mirror-returns t c = sym (mirror-few (c .before .args .size) _ (omega arith))
 
 mirror-distance-requires : (t : ℕ) → mirror-lts.Need-distance-requires (
   distance-reads.Asked,
@@ -47,9 +47,9 @@ mirror-returns-2 : (t : ℕ) → mirror-lts.Need-returns-2 (
   mirror.Post,
 ) (mirror-at t) mirror.Post
 mirror-returns-2 t c =
-    let before = c .before .before in
-    let a = before .before .args in
-    reads-distance (a .size) (before .if1 .left) _ (subℕ (a .at) (a .lead)) (c .before .distance .ensures) (c .if2 .taken)
+    let a = c .before .before .before .args in
+    let p = c .before .distance .result in
+    reads-distance (a .size) (omega arith) p (subℕ (a .at) (a .lead)) (c .before .distance .ensures) (omega arith)
 
 mirror-sub-last : (t : ℕ) → mirror-lts.Need-sub-last (
   distance-reads.Asked,
@@ -74,11 +74,10 @@ mirror-mirror-requires : (t : ℕ) → mirror-lts.Need-mirror-requires (
   mirror.Post,
 ) (mirror-at t) mirror.Post
 mirror-mirror-requires t c κs =
-    let before = c .before .before in
-    let s = before .before in
+    let s = c .before .before .before in
     let a = s .args in
     let p = c .before .distance .result in
-    (reflection-falls (a .size) (before .if1 .left) p (subℕ (a .at) (a .lead)) (c .before .distance .ensures) _ (p - (a .size - 1)) (c .if2 .left) (omega arith) (s .pre .0), s .pre .1)
+    (reflection-falls (a .size) (omega arith) p (subℕ (a .at) (a .lead)) (c .before .distance .ensures) _ (p - (a .size - 1)) (omega arith) (omega arith) (s .pre .0), s .pre .1)
 
 mirror-returns-3 : (t : ℕ) → mirror-lts.Need-returns-3 (
   distance-reads.Asked,
@@ -87,11 +86,10 @@ mirror-returns-3 : (t : ℕ) → mirror-lts.Need-returns-3 (
   mirror.Post,
 ) (mirror-at t) mirror.Post
 mirror-returns-3 t c =
-    let near = c .before .before in
-    let before = near .before in
-    let a = before .before .args in
-    let p = near .distance .result in
-    reflection-reads (a .size) (before .if1 .left) p (subℕ (a .at) (a .lead)) (near .distance .ensures) _ (p - (a .size - 1)) (c .before .if2 .left) (omega arith) (c .mirror .ensures)
+    let d = c .before .before .distance in
+    let a = c .before .before .before .before .args in
+    let p = d .result in
+    reflection-reads (a .size) (omega arith) p (subℕ (a .at) (a .lead)) (d .ensures) _ (p - (a .size - 1)) (omega arith) (omega arith) (c .mirror .ensures)
 
 pub +mirror-spec : {M : Type 1} → statement M
 +mirror-spec = close μ-mirror λ t. mirror-lts.spec (
