@@ -152,10 +152,8 @@ def named(f):
     return 'frame %d %d %d' % (f.W, f.H, f.layout) if f.choice is None else 'smoothed %d %d %d %d' % (f.W, f.H, f.layout, f.choice)
 
 
-def make(seed, directory):
-    g = random.Random(seed)
-    frames = described(g, seed)          # before the places, so that no stage changes them
-    fitting(frames)
+def heads(seed):
+    """The first lines of both tables."""
     planes = head('Frames, one of each layout and four small ones, and their planes by the whole-number rules. proofs/PlaneTable.antt has the theorem.', seed) + [
         'use Prim.Native.Nat.{ℕ}',
         'use mathlib.Core.List.{List, [], _∷_}',
@@ -169,6 +167,14 @@ def make(seed, directory):
         'use Rattle.worked_exact.specs.ExactClaim.{Value, exactly, ExactClaim, givesExact}',
         'use Rattle.worked_planes.specs.WorkedPlanes.{%s}' % ', '.join('frame%s, readings%s' % (n, n) for n in LAST),
     ]
+    return planes, exact
+
+
+def make(seed, directory):
+    g = random.Random(seed)
+    frames = described(g, seed)          # before the places, so that no stage changes them
+    fitting(frames)
+    planes, exact = heads(seed)
     kinds, greens = set(), set()
     for n, (f, frame) in zip(LAST, frames):
         planes += claim('frame' + n, 'Frame', named(f))
@@ -178,8 +184,9 @@ def make(seed, directory):
         planes += claim('planes' + n, 'PlanesClaim', 'givesPlanes frame%s readings%s red%s green%s blue%s' % (n, n, n, n, n))
         values = r.exact_planes(RULES, f, frame)
         by_kind = places(g, f, values) if f.W * f.H > 6 else {}
-        kinds.update(by_kind)
-        greens.update((f.choice == 0, kind) for kind in by_kind if kind in (('Red', r.G), ('Blue', r.G)))
+        if f.W >= 8:
+            kinds.update(by_kind)
+            greens.update((f.choice == 0, kind) for kind in by_kind if kind in (('Red', r.G), ('Blue', r.G)))
         chosen = by_kind.values() or last_places(f)
         exact += ['', 'abbrev pub values%s : List Value' % n, 'values%s =' % n] + lines(
             'exactly %s %d %d %d %d' % (PLANES[k], i, j, x.numerator, x.denominator) for k, i, j in sorted(chosen) for x in [values[k][i * f.W + j]])

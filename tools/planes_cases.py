@@ -18,35 +18,38 @@ def frame_file(w, h, layout, readings, version=1, length=None):
     return bytes([version]) + length.to_bytes(4, 'big') + body
 
 
-def files():
-    rnd = random.Random(int(sys.argv[1]))
+LEAST = RULES.min_size               # of width and height
 
-    def some(n, top=4095):
-        return [rnd.randint(0, top) for _ in range(n)]
 
-    least = RULES.min_size
-    off = least - 1
-    flat = frame_file(8, 8, 0, [100] * 64)
+def some(rnd, n):
+    return [rnd.randint(0, 4095) for _ in range(n)]
+
+
+def accepted_files(rnd, flat):
     # 01's example; accepted frames of each layout, odd and even sizes, small ones, extreme readings, and the largest files
     yield flat
     for layout in range(4):
-        yield frame_file(8, 8, layout, some(64))
-        yield frame_file(9, 11, layout, some(99))
-        yield frame_file(least, least, layout, some(least * least))
-        yield frame_file(least, least + 1, layout, some(least * (least + 1)))
-        yield frame_file(7, 4, layout, some(28))
+        yield frame_file(8, 8, layout, some(rnd, 64))
+        yield frame_file(9, 11, layout, some(rnd, 99))
+        yield frame_file(LEAST, LEAST, layout, some(rnd, LEAST * LEAST))
+        yield frame_file(LEAST, LEAST + 1, layout, some(rnd, LEAST * (LEAST + 1)))
+        yield frame_file(7, 4, layout, some(rnd, 28))
         yield frame_file(10, 8, layout, [rnd.choice([0, 4095]) for _ in range(80)])
     yield frame_file(8, 8, 0, [4095] * 64)
-    yield frame_file(64, 64, 1, some(4096))
-    yield frame_file(least, 4096 // least, 2, some(4096))
-    yield frame_file(4096 // least, least, 3, some(4096))
+    yield frame_file(64, 64, 1, some(rnd, 4096))
+    yield frame_file(LEAST, 4096 // LEAST, 2, some(rnd, 4096))
+    yield frame_file(4096 // LEAST, LEAST, 3, some(rnd, 4096))
+
+
+def refused_files(rnd, flat):
+    off = LEAST - 1
     # 8
     yield b''
     yield flat[:9]
     yield flat[:10]
     yield flat[:137]
     yield flat + b'\0'
-    yield frame_file(64, 64, 0, some(4096)) + b'\0'
+    yield frame_file(64, 64, 0, some(rnd, 4096)) + b'\0'
     yield frame_file(8, 8, 0, [100] * 64, version=0)
     yield frame_file(8, 8, 0, [100] * 64, version=2)
     yield frame_file(8, 8, 0, [100] * 64, length=132)
@@ -59,19 +62,26 @@ def files():
     # 5 + 2 W H is the length of the rest, but for 2^32
     yield frame_file(46317, 46365, 0, [100] * 4057)
     # 1, also before 2 and 6
-    yield frame_file(off, 8, 0, some(8 * off))
+    yield frame_file(off, 8, 0, some(rnd, 8 * off))
     yield frame_file(8, off, 4, [5000] * (8 * off))
     yield frame_file(0, 8, 0, [])
     yield frame_file(8, 0, 0, [])
     yield frame_file(0, 4097, 9, [])
-    yield frame_file(1, 4096, 0, some(4096))
+    yield frame_file(1, 4096, 0, some(rnd, 4096))
     # 2, also before 6
-    yield frame_file(8, 8, 4, some(64))
+    yield frame_file(8, 8, 4, some(rnd, 64))
     yield frame_file(8, 8, 255, [4096] * 64)
     # 6
     yield frame_file(8, 8, 0, [100] * 63 + [4096])
     yield frame_file(8, 8, 0, [65535] + [100] * 63)
+    # 4095 is none
     yield frame_file(8, 8, 0, [100] * 63 + [4095])
+
+
+def files():
+    rnd, flat = random.Random(int(sys.argv[1])), frame_file(8, 8, 0, [100] * 64)
+    yield from accepted_files(rnd, flat)
+    yield from refused_files(rnd, flat)
 
 
 def name(seed, w, h, layout):
@@ -85,19 +95,18 @@ def names():
     def seed():
         return rnd.randrange(2 ** 32)
 
-    least = RULES.min_size
     # the README's example; each layout, odd and even sizes, the ends of the seeds, and the largest frames
     yield name(0, 8, 8, 0)
     for layout in range(4):
         yield name(seed(), 8, 8, layout)
         yield name(seed(), 9, 11, layout)
-        yield name(seed(), least, 4096 // least, layout)
-        yield name(seed(), least, least, layout)
-        yield name(seed(), 7, least + 1, layout)
+        yield name(seed(), LEAST, 4096 // LEAST, layout)
+        yield name(seed(), LEAST, LEAST, layout)
+        yield name(seed(), 7, LEAST + 1, layout)
     for s in (1, 255, 256, 65536, 2 ** 24, 2 ** 31, 2 ** 32 - 1):
         yield name(s, 10, 9, 1)
     yield name(seed(), 64, 64, 3)
-    yield name(seed(), 4096 // least, least, 2)
+    yield name(seed(), 4096 // LEAST, LEAST, 2)
     yield name(seed(), 63, 65, 0)
     # 8: not nine bytes
     good = name(seed(), 8, 8, 0)
@@ -109,7 +118,7 @@ def names():
     yield name(0, 0, 0, 9)[:8]
     yield name(0, 0, 0, 9) + b'\0'
     # 1, also before 2 and before W x H
-    for w, h in ((0, 8), (8, 0), (least - 1, 8), (8, least - 1), (4097, 8), (8, 4097), (65535, 65535), (1, 4096), (0, 0)):
+    for w, h in ((0, 8), (8, 0), (LEAST - 1, 8), (8, LEAST - 1), (4097, 8), (8, 4097), (65535, 65535), (1, 4096), (0, 0)):
         yield name(seed(), w, h, 0)
         yield name(seed(), w, h, 4)
     # 2, also before W x H
@@ -117,14 +126,14 @@ def names():
         yield name(seed(), 8, 8, layout)
         yield name(seed(), 4096, 8, layout)
     # 8: W x H above 4096
-    for w, h in ((64, 65), (17, 241), (4096, 4096), (4096, 8), (least, 4096 // least + 1)):
+    for w, h in ((64, 65), (17, 241), (4096, 4096), (4096, 8), (LEAST, 4096 // LEAST + 1)):
         yield name(seed(), w, h, 3)
 
 
 def too_long():
     """The longest frame file and one byte more."""
     rnd = random.Random(int(sys.argv[1]))
-    data = frame_file(64, 64, 2, [rnd.randint(0, 4095) for _ in range(4096)])
+    data = frame_file(64, 64, 2, some(rnd, 4096))
     assert len(data) == 8202 and 'refused' not in reference.program(RULES, data)
     return data + b'\0'
 

@@ -196,19 +196,8 @@ static size_t stack_used(void *(*call)(void *), int who) {
     return size - k;
 }
 
-int main(int argc, char **argv) {
-    double seconds = argc > 1 ? atof(argv[1]) : 2;
-    size_t samples = (size_t)SIZE * SIZE;
-    mosaic = malloc(samples * 2);
-    for (int who = 0; who < EACH; who++)
-        for (int c = 0; c < 3; c++) {
-            planes[who][c] = malloc(samples * 2);
-            memset(planes[who][c], who, samples * 2); /* not the same before */
-        }
-    for (int plain = 0; plain < 2; plain++) {
-        back[plain] = malloc(samples * 2);
-        memset(back[plain], 0xf0 + plain, samples * 2);
-    }
+/* The table of strips, each figure by either smoothing; whether some planes differ. The last figure leaves the planes of a whole frame. */
+static int strips(double seconds) {
     struct { int contents; size_t columns, rows; } const figures[] = {{0, 64, 4096}, {0, SIZE, 1}, {0, SIZE, 16}, {0, SIZE, 64},
                                                                       {0, SIZE, 4096}, {1, SIZE, 4096}, {2, SIZE, 4096}};
     enum { FIGURES = 2 * sizeof figures / sizeof *figures };
@@ -239,6 +228,23 @@ int main(int argc, char **argv) {
         printf(" %6.2f %6.2f%s\n", best[WHOLE] / best[LIBRARY], best[FP] / best[LIBRARY], differ ? "  PLANES DIFFER" : "");
         fflush(stdout);
     }
+    return bad;
+}
+
+int main(int argc, char **argv) {
+    double seconds = argc > 1 ? atof(argv[1]) : 2;
+    size_t samples = (size_t)SIZE * SIZE;
+    mosaic = malloc(samples * 2);
+    for (int who = 0; who < EACH; who++)
+        for (int c = 0; c < 3; c++) {
+            planes[who][c] = malloc(samples * 2);
+            memset(planes[who][c], who, samples * 2); /* not the same before */
+        }
+    for (int plain = 0; plain < 2; plain++) {
+        back[plain] = malloc(samples * 2);
+        memset(back[plain], 0xf0 + plain, samples * 2);
+    }
+    int bad = strips(seconds);
     bad |= beside("the mosaic back, the whole frame", mosaic_back, seconds);
     if (memcmp(back[0], mosaic, samples * 2)) {
         printf("THE MOSAIC DIFFERS\n");

@@ -99,12 +99,9 @@ fn lend_strip(
     blue: &mut [u16],
     mosaic: &mut [u16],
 ) {
-    let seed = f[14] % 4294967296;
     recipe::piece(f, piece);
-    recipe::plane(seed + 1, red);
-    recipe::plane(seed + 2, green);
-    recipe::plane(seed + 3, blue);
-    recipe::plane(seed + 4, mosaic);
+    recipe::planes(f, red, green, blue);
+    recipe::plane(f[14] % 4294967296 + 4, mosaic);
     there_and_back(f, piece, red, green, blue, mosaic);
 }
 

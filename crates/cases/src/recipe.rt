@@ -118,6 +118,14 @@ pub fn plane(seed: usize, samples: &mut [u16]) {
     }
 }
 
+// What the three planes of a strip hold before a call.
+pub fn planes(f: &Fields, red: &mut [u16], green: &mut [u16], blue: &mut [u16]) {
+    let seed = f[14] % 4294967296;
+    plane(seed + 1, red);
+    plane(seed + 2, green);
+    plane(seed + 3, blue);
+}
+
 // Bit `cell` of a number.
 fn bit(bits: usize, cell: usize) -> bool {
     if cell == 0 {

@@ -83,11 +83,8 @@ fn show(f: &Fields, mosaic: &[u16], red: &mut [u16], green: &mut [u16], blue: &m
 fn lend(f: &Fields, mosaic: &mut [u16], red: &mut [u16], green: &mut [u16], blue: &mut [u16])
     requires { ⌜ (length (now red) ≡ 1485) × (length (now green) ≡ 1485) × (length (now blue) ≡ 1485) ⌝ }
 {
-    let seed = f[14] % 4294967296;
     recipe::piece(f, mosaic);
-    recipe::plane(seed + 1, red);
-    recipe::plane(seed + 2, green);
-    recipe::plane(seed + 3, blue);
+    recipe::planes(f, red, green, blue);
     show(f, mosaic, red, green, blue);
 }
 

@@ -74,11 +74,8 @@ fn check_and_call(f: &Fields, piece: &[u16], red: &mut [u16], green: &mut [u16],
 
 // Lent samples as the case asks for.
 fn lend(f: &Fields, piece: &mut [u16], red: &mut [u16], green: &mut [u16], blue: &mut [u16]) {
-    let seed = f[14] % 4294967296;
     recipe::piece(f, piece);
-    recipe::plane(seed + 1, red);
-    recipe::plane(seed + 2, green);
-    recipe::plane(seed + 3, blue);
+    recipe::planes(f, red, green, blue);
     check_and_call(f, piece, red, green, blue);
 }
 

@@ -175,7 +175,7 @@ module _ {f : Frame} {first : ℕ} {rows : List ℕ} {v b s o : ℕ} {x : List �
 
     buffers : RowBuffers f first rows (v + i) s o′ x′ (part (i * s) (3 * s) dh) (part (i * s) (9 * s) dv) (part (i * s) (3 * s - 4) gh) (part (i * s) (5 * s) gv)
     buffers = record {
-      places = record { lent = z .lent i hi; wide = z .wide; narrow = z .narrow; odd = z .odd };
+      places = record { lent = z .lent i hi; wide = z .wide; odd = z .odd };
       starts = ap (λ n. (n + i) % 2) (z .starts) ∙ sym (starts-next (f .layout) v i (z .lent i hi .frame .known));
       x-is =
           ap (part (i * s) (13 * s)) (z .x-is) ∙ joined-rows (extendedRow f first rows v s) s (λ r. length-table _ s) (b + 12) i 13 (omega arith)

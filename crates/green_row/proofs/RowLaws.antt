@@ -99,7 +99,6 @@ odd-row r s h = let t : s ≡ s / 2 * 2 + 1 = omega (arith, div-add-mod' s 2) in
 pub record RowPlaces (f : Frame) (first : ℕ) (rows : List ℕ) (v s : ℕ) : Type 0 where
   pub lent : Lent f first (length rows) v
   pub wide : f .width + 14 ≤ s
-  pub narrow : s ≤ f .width + 15
   pub odd : s % 2 ≡ 1
 
 module _ {f : Frame} {first : ℕ} {rows : List ℕ} {v s : ℕ} (z : RowPlaces f first rows v s) where
