@@ -183,8 +183,8 @@ def make(seed, directory):
             planes += cells(f, name.lower() + n, plane)
         planes += claim('planes' + n, 'PlanesClaim', 'givesPlanes frame%s readings%s red%s green%s blue%s' % (n, n, n, n, n))
         values = r.exact_planes(RULES, f, frame)
-        by_kind = places(g, f, values) if f.W * f.H > 6 else {}
-        if f.W >= 8:
+        by_kind = places(g, f, values) if f.W * f.H > 6 else {}         # not of the three smallest
+        if f.W >= 8:                                                    # the four of FRAMES
             kinds.update(by_kind)
             greens.update((f.choice == 0, kind) for kind in by_kind if kind in (('Red', r.G), ('Blue', r.G)))
         chosen = by_kind.values() or last_places(f)

@@ -169,7 +169,7 @@ static uint32_t strip_check(Call c, const uint16_t *p, size_t len, const size_t 
 
 static void strip_case(int twice) {
     static const char *const names[3] = {"the red plane", "the green plane", "the blue plane"};
-    /* a whole call first */
+    /* a whole call first, but for a size that may be one less than the least */
     Call call = whole_call();
     uint64_t lo = call.a < 7 ? 0 : call.a - 7, hi = call.a + call.n + 7 < call.H ? call.a + call.n + 7 : call.H;
     size_t len = (size_t)((hi - lo) * call.W), lens[3];
