@@ -18,3 +18,5 @@ pub const MALFORMED_FILE: u32 = 8;
 pub const NOT_CAMERA_PLANES: u32 = 9;
 
 pub const UNKNOWN_SMOOTHING: u32 = 10;
+
+pub const OVER_PREVIEW_SIZE: u32 = 11;

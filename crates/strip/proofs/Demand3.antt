@@ -77,10 +77,10 @@ module _ (f : Frame) (readings : List ℕ) where
   named c = smoothed (f .width) (f .height) (f .layout) (c .asked .frame .smoothing)
 
   abbrev ours : StripCall → Asked
-  ours c = asked (named c) (c .asked .first) (c .asked .count) (pieceOf (f .width) (f .height) (c .asked .first) (c .asked .count) readings)
+  ours c = asked (c .asked .entry) (named c) (c .asked .first) (c .asked .count) (pieceOf (f .width) (f .height) (c .asked .first) (c .asked .count) readings)
 
   asks : (c : StripCall) → OfMosaic f readings c → c .asked ≡ ours c
-  asks c o = ap₂ (λ g x. asked g (c .asked .first) (c .asked .count) x) (o .frame) (o .piece)
+  asks c o = ap₂ (λ g x. asked (c .asked .entry) g (c .asked .first) (c .asked .count) x) (o .frame) (o .piece)
 
   -- ---- calls of which the accepted ones read this mosaic, whatever smoothings they name
   module _ (Premise : StripCall → Type 0) (of-mosaic : (c : StripCall) → Premise c → OfMosaic f readings c) where

@@ -1,5 +1,6 @@
 -- What an accepted strip call is: it fits, its piece has all that its rows are worked out from, and what it shows of the frame's rows. Assumes nothing.
 use mathlib.Core.Path.{_≡_, sym, subst, ap}
+use mathlib.Core.Bool.{false}
 use mathlib.Core.List.{List}
 use Prim.Native.Nat.{ℕ, _+_, _*_, _-_, _≤_, _<_, min, max}
 use native.Mathlib.Nat.{add-mul, le-trans, mul-le-mul-right}
@@ -15,20 +16,23 @@ use Rattle.bayer.specs.declared.frame.Frame.{Frame}
 use Rattle.bayer.specs.Piece.{pieceStart, pieceEnd, pieceRows, pieceOf}
 use Rattle.bayer.specs.Condition.{frameCases, FrameFits, smoothingCases, rowsCases}
 use Rattle.bayer.specs.Lent.{Lent}
-use Rattle.bayer.proofs.RefusalLaws.{off, off-append}
+use Rattle.bayer.specs.declared.colour.Colour.the-variants.{Red, Green, Blue}
+use Rattle.bayer.specs.Planes.{Planes}
+use Rattle.bayer.specs.Refusal.{heldAfter}
+use Rattle.bayer.proofs.RefusalLaws.{off, off-append, refused-holds}
 use Rattle.bayer.proofs.ConditionLaws.{frame-fits, rows-fit, same-number, planes-fit, readings-fit}
 use Rattle.demosaic.proofs.FrameLocal.{in-piece}
-use Rattle.strip_rows.specs.StripRows.{Readable}
-use Rattle.strip.specs.Strip.{Asked, asked, lengthCases, stripNumber}
+use Rattle.strip_rows.specs.StripRows.{Readable, Sized, Filled}
+use Rattle.strip.specs.declared.entry.Entry.{Entry}
+use Rattle.strip.specs.Strip.{Asked, asked, overPreview, entryCases, lengthCases, stripNumber, Promise}
 
 pub record Fits (c : Asked) (red green blue : ℕ) : Type 0 where
   pub frame : FrameFits (c .frame)
   pub some : 0 < c .count
   pub rows : c .first + c .count ≤ c .frame .height
+  pub shown : overPreview (c .entry) (c .frame .width) (c .count) ≡ false
   pub long : length (c .piece) ≡ pieceRows (c .frame .height) (c .first) (c .count) * c .frame .width
-  pub reds : red ≡ c .count * c .frame .width
-  pub greens : green ≡ c .count * c .frame .width
-  pub blues : blue ≡ c .count * c .frame .width
+  pub planes : Sized (c .frame) (c .count) red green blue
   pub range : AllAtMost 4095 (c .piece)
 
 pub fits : (c : Asked) (red green blue : ℕ) → stripNumber c red green blue ≡ 0 → Fits c red green blue
@@ -37,18 +41,18 @@ fits c red green blue e =
     let o = off-append (frameCases (c .frame)) _ e in
     let s = off-append (smoothingCases (c .frame .smoothing)) _ (o .1) in
     let p = off-append (rowsCases (c .frame) (c .first) (c .count)) _ (s .1) in
-    let q = off-append (lengthCases c red green blue) _ (p .1) in
+    let l = off-append (entryCases (c .entry) (c .frame .width) (c .count)) _ (p .1) in
+    let q = off-append (lengthCases (c .frame) (c .first) (c .count) (c .piece) red green blue) _ (l .1) in
     let rows = rows-fit (c .frame) (c .first) (c .count) (p .0) in
-    let lengths = off (lengthCases c red green blue) (q .0) in
+    let lengths = off (lengthCases (c .frame) (c .first) (c .count) (c .piece) red green blue) (q .0) in
     let planes = planes-fit (c .count * c .frame .width) red green blue (lengths .1 .0) in
     record {
       frame = frame-fits (c .frame) (o .0);
       some = rows .0;
       rows = rows .1;
+      shown = off (entryCases (c .entry) (c .frame .width) (c .count)) (l .0) .0;
       long = same-number _ _ (lengths .0);
-      reds = planes .0;
-      greens = planes .1;
-      blues = planes .2;
+      planes = record { red-is = planes .0; green-is = planes .1; blue-is = planes .2 };
       range = readings-fit (c .piece) (q .1);
     }
 
@@ -83,6 +87,16 @@ module _ (c : Asked) {red green blue : ℕ} (w : Fits c red green blue) where
   pub readable : Readable (c .frame) (pieceStart (c .first)) (c .piece) (c .first) (c .count)
   readable = record { frame = w .frame; some = w .some; inside = w .rows; range = w .range; lent = lent-at }
 
+-- ---- the contract, of a call that is refused before it writes and of one that is accepted
+
+pub keeps : (c : Asked) (lent : Planes) {answer : ℕ} → answer ≡ stripNumber c (length (lent Red)) (length (lent Green)) (length (lent Blue)) → (answer ≡ 0 → ⊥) → Promise c lent answer lent
+keeps c lent e h = record { number = e; red = sym (refused-holds _ _ _ h); green = sym (refused-holds _ _ _ h); blue = sym (refused-holds _ _ _ h) }
+
+pub fills : (c : Asked) (lent after : Planes) → 0 ≡ stripNumber c (length (lent Red)) (length (lent Green)) (length (lent Blue))
+    → Filled (c .frame) (c .first) (c .count) (c .piece) (after Red) (after Green) (after Blue) → Promise c lent 0 after
+unfolding heldAfter
+fills c lent after e h = record { number = e; red = h .red-is; green = h .green-is; blue = h .blue-is }
+
 -- what an accepted call of a frame's rows shows of row i, one of its own: its readings are there, and in range
 pub record RowRead (f : Frame) (readings : List ℕ) (i : ℕ) : Type 0 where
   pub frame : FrameFits f
@@ -90,7 +104,7 @@ pub record RowRead (f : Frame) (readings : List ℕ) (i : ℕ) : Type 0 where
   pub long : (i + 1) * f .width ≤ length readings
   pub range : (j : ℕ) → j < f .width → getD readings (i * f .width + j) 0 ≤ 4095
 
-pub row-read : (f : Frame) (readings : List ℕ) (a n : ℕ) {red green blue : ℕ} → Fits (asked f a n (pieceOf (f .width) (f .height) a n readings)) red green blue
+pub row-read : {e : Entry} (f : Frame) (readings : List ℕ) (a n : ℕ) {red green blue : ℕ} → Fits (asked e f a n (pieceOf (f .width) (f .height) a n readings)) red green blue
     → (i : ℕ) → a ≤ i → i < a + n → RowRead f readings i
 row-read f readings a n w i low high = record { frame = w .frame; inside = omega (arith, w .rows); long = long; range = range }
   where

@@ -17,7 +17,9 @@ use Rattle.bayer.specs.Condition.{frameCases, smoothingCases, rowsCases, planes
 use Rattle.bayer.proofs.RefusalLaws.{on, skip, off-append}
 use Rattle.bayer.proofs.ConditionLaws.{frame-fits, rows-pass, planes-pass}
 use Rattle.demosaic.specs.Sample.{framePlane}
-use Rattle.strip.specs.Strip.{asked, lengthCases, stripNumber, Promise}
+use Rattle.strip.specs.declared.entry.Entry.{Entry}
+use Rattle.strip.specs.declared.entry.Entry.the-variants.{FullSize}
+use Rattle.strip.specs.Strip.{asked, entryCases, lengthCases, stripNumber, Promise}
 use Rattle.strip.proofs.Demand2.{accepted-plane}
 
 module _ (f : Frame) (readings : List ℕ) (long : length readings ≡ f .width * f .height) {red green blue : ℕ} (r : red ≡ f .width * f .height) (g : green ≡ f .width * f .height) (b : blue ≡ f .width * f .height) where
@@ -42,11 +44,11 @@ module _ (f : Frame) (readings : List ℕ) (long : length readings ≡ f .width 
   abbrev named : List Case
   named = frameCases f ++ smoothingCases (f .smoothing)
 
-  pub whole-number : stripNumber (asked f 0 H readings) red green blue ≡ firstOf (frameCases f ++ (smoothingCases (f .smoothing) ++ rangeCases readings))
-  unfolding stripNumber
+  pub whole-number : stripNumber (asked FullSize f 0 H readings) red green blue ≡ firstOf (frameCases f ++ (smoothingCases (f .smoothing) ++ rangeCases readings))
+  unfolding stripNumber firstOf
   whole-number =
-      skip named (rowsCases f 0 H) (lengthCases (asked f 0 H readings) red green blue ++ rangeCases readings) (λ e. rows (off-append (frameCases f) (smoothingCases (f .smoothing)) e .0))
-      ∙ skip named (lengthCases (asked f 0 H readings) red green blue) (rangeCases readings) (λ e. on (lengthCases (asked f 0 H readings) red green blue) (piece, (planes, tt)))
+      skip named (rowsCases f 0 H) (entryCases FullSize (f .width) H ++ (lengthCases f 0 H readings red green blue ++ rangeCases readings)) (λ e. rows (off-append (frameCases f) (smoothingCases (f .smoothing)) e .0))
+      ∙ skip named (lengthCases f 0 H readings red green blue) (rangeCases readings) (λ e. on (lengthCases f 0 H readings red green blue) (piece, (planes, tt)))
 
-pub whole-plane : (f : Frame) (readings : List ℕ) {lent after : Planes} {answer : ℕ} → Promise (asked f 0 (f .height) readings) lent answer after → answer ≡ 0 → (k : Colour) → after k ≡ framePlane f readings k
+pub whole-plane : {e : Entry} (f : Frame) (readings : List ℕ) {lent after : Planes} {answer : ℕ} → Promise (asked e f 0 (f .height) readings) lent answer after → answer ≡ 0 → (k : Colour) → after k ≡ framePlane f readings k
 whole-plane f readings p e k = accepted-plane p e k

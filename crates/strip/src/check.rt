@@ -3,12 +3,14 @@ ghost use mathlib.Core.List.{_++_};
 ghost use Prim.Native.Nat.{_≤_};
 ghost use Rattle.bayer.specs.Condition.{frameCases, FrameFits, smoothingCases, rowsCases, rangeCases};
 ghost use Rattle.bayer.specs.Refusal.{firstOf};
-ghost use Rattle.strip.specs.Strip.{asked, lengthCases, stripNumber};
+ghost use Rattle.strip.specs.Strip.{asked, overPreview, entryCases, lengthCases, stripNumber};
+use crate::entry::Entry;
 use bayer::check::frame_check;
 use bayer::check::planes_misfit;
 use bayer::check::rows_outside;
 use bayer::frame::Frame;
 use bayer::piece::piece_rows;
+use bayer::refusal::OVER_PREVIEW_SIZE;
 use bayer::refusal::READING_OUT_OF_RANGE;
 use bayer::refusal::ROWS_OUTSIDE_FRAME;
 use bayer::refusal::UNKNOWN_SMOOTHING;
@@ -16,9 +18,19 @@ use bayer::refusal::WRONG_PIECE_LENGTH;
 use bayer::refusal::WRONG_PLANE_LENGTH;
 use lists::above::any_above;
 
-// Refusals 1, 2, 10 and 3: of what a call names.
-fn named_check(frame: Frame, a: usize, n: usize) -> u32
-    ensures { λ r. ⌜ r ≡ firstOf (frameCases frame ++ (smoothingCases (frame .smoothing) ++ rowsCases frame a n)) ⌝ }
+// Whether the preview is asked for more columns or rows than the unit takes.
+fn over_preview(entry: Entry, w: usize, n: usize) -> bool
+    ensures { λ r. ⌜ r ≡ overPreview entry w n ⌝ }
+{
+    match entry {
+        Entry::FullSize => false,
+        Entry::Preview => 1024 < w || 64 < n,
+    }
+}
+
+// Refusals 1, 2, 10, 3 and 11: of what a call names.
+fn named_check(entry: Entry, frame: Frame, a: usize, n: usize) -> u32
+    ensures { λ r. ⌜ r ≡ firstOf (frameCases frame ++ (smoothingCases (frame .smoothing) ++ (rowsCases frame a n ++ entryCases entry (frame .width) n))) ⌝ }
 {
     let number = frame_check(frame);
     if number != 0 {
@@ -29,6 +41,9 @@ fn named_check(frame: Frame, a: usize, n: usize) -> u32
     }
     if rows_outside(frame.height, a, n) {
         return ROWS_OUTSIDE_FRAME;
+    }
+    if over_preview(entry, frame.width, n) {
+        return OVER_PREVIEW_SIZE;
     }
     0
 }
@@ -44,7 +59,7 @@ fn lent_check(
     blue: usize,
 ) -> u32
     requires { ⌜ (FrameFits frame) × (n ≤ frame .height) ⌝ }
-    ensures { λ r. ⌜ r ≡ firstOf (lengthCases (asked frame a n (now (piece .entry))) red green blue ++ rangeCases (now (piece .entry))) ⌝ }
+    ensures { λ r. ⌜ r ≡ firstOf (lengthCases frame a n (now (piece .entry)) red green blue ++ rangeCases (now (piece .entry))) ⌝ }
 {
     let w = frame.width;
     let length = piece_rows(frame.height, a, n) * w;
@@ -60,8 +75,9 @@ fn lent_check(
     0
 }
 
-// The number of a strip call: 0, or its refusal. Nothing is written.
+// The number of a strip call by this entry: 0, or its refusal. Nothing is written.
 pub fn strip_check(
+    entry: Entry,
     frame: Frame,
     a: usize,
     n: usize,
@@ -70,9 +86,9 @@ pub fn strip_check(
     green: usize,
     blue: usize,
 ) -> u32
-    ensures { λ r. ⌜ r ≡ stripNumber (asked frame a n (now (piece .entry))) red green blue ⌝ }
+    ensures { λ r. ⌜ r ≡ stripNumber (asked entry frame a n (now (piece .entry))) red green blue ⌝ }
 {
-    let number = named_check(frame, a, n);
+    let number = named_check(entry, frame, a, n);
     if number != 0 {
         return number;
     }

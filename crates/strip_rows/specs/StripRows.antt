@@ -1,5 +1,5 @@
 -- The rows that a strip works out. Assumes nothing.
-use Prim.Native.Nat.{ℕ, _+_, _-_, _≤_, _<_}
+use Prim.Native.Nat.{ℕ, _+_, _*_, _-_, _≤_, _<_}
 use mathlib.Core.Path.{_≡_}
 use mathlib.Core.Bool.{cond}
 use mathlib.Core.List.{List}
@@ -10,12 +10,14 @@ use Rattle.lists.specs.Table.{table, joined}
 use Rattle.lists.specs.Part.{rowOf}
 use Rattle.lists.specs.Bound.{AllAtMost}
 use Rattle.bayer.specs.declared.colour.Colour.{Colour}
+use Rattle.bayer.specs.declared.colour.Colour.the-variants.{Red, Green, Blue}
 use Rattle.bayer.specs.declared.frame.Frame.{Frame}
 use Rattle.bayer.specs.Condition.{FrameFits}
+use Rattle.bayer.specs.Piece.{pieceStart}
 use Rattle.bayer.specs.Mosaic.{continued}
 use Rattle.bayer.specs.Lent.{Lent}
 use Rattle.green_rule.specs.Greens.{greens, greenRow}
-use Rattle.demosaic.specs.Sample.{otherFrom}
+use Rattle.demosaic.specs.Sample.{otherFrom, planeRows}
 
 -- row v of colour k, red or blue
 abbrev pub colourRow : Frame → (first : ℕ) (rows : List ℕ) → Colour → (v : ℕ) → List ℕ
@@ -42,3 +44,15 @@ pub record GreensOf (f : Frame) (first : ℕ) (rows : List ℕ) (a n : ℕ) (gre
 -- row v of them
 abbrev pub amongGreens : (w a n : ℕ) (green above below : List ℕ) (v : ℕ) → List ℕ
 amongGreens w a n green above below v = cond (ltb v a) above (cond (ltb v (a + n)) (rowOf w (v - a) green) below)
+
+-- the lengths of three planes of n rows
+pub record Sized (f : Frame) (n red green blue : ℕ) : Type 0 where
+  pub red-is : red ≡ n * f .width
+  pub green-is : green ≡ n * f .width
+  pub blue-is : blue ≡ n * f .width
+
+-- three planes hold the samples of rows a to a + n − 1, from a strip's piece
+pub record Filled (f : Frame) (a n : ℕ) (piece red green blue : List ℕ) : Type 0 where
+  pub red-is : red ≡ planeRows f (pieceStart a) piece a n Red
+  pub green-is : green ≡ planeRows f (pieceStart a) piece a n Green
+  pub blue-is : blue ≡ planeRows f (pieceStart a) piece a n Blue

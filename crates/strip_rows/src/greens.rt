@@ -35,7 +35,7 @@ fn green_beside(
 }
 
 // The greens of rows a to a + n - 1, and of the rows above and below them that the frame has. At its edges the mirrored rows are among them already.
-fn greens_in(
+pub fn greens(
     frame: Frame,
     start: usize,
     piece: &[u16],
@@ -58,41 +58,4 @@ fn greens_in(
     green_rows(frame, start, piece, a, n, x, d, g, t, f, green);
     green_beside(frame, start, piece, a, x, d, g, t, f, above);
     green_beside(frame, start, piece, a + n + 1, x, d, g, t, f, below);
-}
-
-// The same, with room of its own, for up to 4096 columns.
-pub fn greens(
-    frame: Frame,
-    start: usize,
-    piece: &[u16],
-    a: usize,
-    n: usize,
-    green: &mut [u16],
-    above: &mut [u16],
-    below: &mut [u16],
-)
-    requires { ⌜ Readable frame start (now piece) a n ⌝ }
-    requires { ⌜ (length (now green) ≡ n * frame .width) × (length (now above) ≡ frame .width) × (length (now below) ≡ frame .width) ⌝ }
-    ensures { λ _. ⌜ GreensOf frame start (now (piece .entry)) a n (now (green .exit)) (now (above .exit)) (now (below .exit)) ⌝ }
-{
-    let mut x = [0u16; 65776];
-    let mut d = [0i32; 73998];
-    let mut g = [0u32; 57554];
-    let mut t = [0u32; 16384];
-    let mut f = [0i32; 16384];
-    greens_in(
-        frame,
-        start,
-        piece,
-        a,
-        n,
-        &mut x,
-        &mut d,
-        &mut g,
-        &mut t,
-        &mut f,
-        green,
-        above,
-        below,
-    );
 }

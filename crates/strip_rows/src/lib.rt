@@ -2,3 +2,4 @@
 pub mod colours;
 pub mod fill;
 pub mod greens;
+pub mod rooms;

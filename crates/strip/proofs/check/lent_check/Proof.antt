@@ -11,7 +11,7 @@ use Rattle.lists.specs.Bound.{anyAbove}
 use Rattle.bayer.specs.Piece.{pieceRows}
 use Rattle.bayer.specs.Refusal.{firstOf}
 use Rattle.bayer.specs.Condition.{planesMisfit, rangeCases}
-use Rattle.strip.specs.Strip.{asked, lengthCases}
+use Rattle.strip.specs.Strip.{lengthCases}
 use Rattle.strip.proofs.check.lent_check.Statement.{statement}
 use Rattle.strip.proofs.check.lent_check.Tie as tie
 
@@ -38,7 +38,7 @@ mul-planes-misfit c = let s = c .before .before .before in omega (arith, small s
 
 -- the piece has its length: the planes and the readings decide
 fits : (c : tie.Else1) → let a = c .before .before .before .args in
-    firstOf (lengthCases (asked (a .frame) (a .a) (a .n) (a .piece .now)) (a .red) (a .green) (a .blue) ++ rangeCases (a .piece .now))
+    firstOf (lengthCases (a .frame) (a .a) (a .n) (a .piece .now) (a .red) (a .green) (a .blue) ++ rangeCases (a .piece .now))
     ≡ cond (planesMisfit (a .n * a .frame .width) (a .red) (a .green) (a .blue)) 5 (cond (anyAbove 4095 (a .piece .now)) 6 0)
 unfolding firstOf
 fits c = rw (← wanted (c .before), eq-eqb _ _ (c .if1 .left))

@@ -7,12 +7,12 @@ use Rattle.bayer.specs.Condition.{frameCases, smoothingCases, rowsCases}
 use Rattle.bayer.specs.Refusal.{Case, firstOf}
 use Rattle.bayer.proofs.RefusalLaws.{later, sooner, off-append}
 use Rattle.bayer.proofs.ConditionLaws.{frame-fits, rows-fit}
-use Rattle.strip.specs.Strip.{stripNumber}
+use Rattle.strip.specs.Strip.{entryCases, stripNumber}
 use Rattle.strip.proofs.check.strip_check.Statement.{statement}
 use Rattle.strip.proofs.check.strip_check.Tie as tie
 
 abbrev named : tie.Start → List Case
-named s = let f = s .args .frame in frameCases f ++ (smoothingCases (f .smoothing) ++ rowsCases f (s .args .a) (s .args .n))
+named s = let f = s .args .frame in frameCases f ++ (smoothingCases (f .smoothing) ++ (rowsCases f (s .args .a) (s .args .n) ++ entryCases (s .args .entry) (f .width) (s .args .n)))
 
 named-check-requires : tie.Need-named-check-requires
 named-check-requires c κs = search needs
@@ -31,7 +31,8 @@ lent-check-requires : tie.Need-lent-check-requires
 lent-check-requires c κs =
     let a = c .before .before .before .args in
     let o = off-append (frameCases (a .frame)) _ (zero c) in
-    let r = rows-fit (a .frame) (a .a) (a .n) (off-append (smoothingCases (a .frame .smoothing)) _ (o .1) .1) in
+    let p = off-append (smoothingCases (a .frame .smoothing)) _ (o .1) in
+    let r = rows-fit (a .frame) (a .a) (a .n) (off-append (rowsCases (a .frame) (a .a) (a .n)) _ (p .1) .0) in
     (frame-fits (a .frame) (o .0), omega (arith, r .1))
 
 returns-2 : tie.Need-returns-2

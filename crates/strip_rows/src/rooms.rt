@@ -1,0 +1,84 @@
+// The planes filled in local arrays: what a call of each entry takes of the stack.
+ghost use Prim.Native.Nat.{_≤_};
+ghost use lib.ListN.{length};
+ghost use Rattle.bayer.specs.Piece.{pieceStart};
+ghost use Rattle.strip_rows.specs.StripRows.{Readable, Sized, Filled};
+use crate::fill::fill_planes;
+use bayer::frame::Frame;
+
+// In room for 4096 columns.
+pub fn fill_wide(
+    frame: Frame,
+    a: usize,
+    n: usize,
+    piece: &[u16],
+    red: &mut [u16],
+    green: &mut [u16],
+    blue: &mut [u16],
+)
+    requires { ⌜ (Readable frame (pieceStart a) (now piece) a n) × (Sized frame n (length (now red)) (length (now green)) (length (now blue))) ⌝ }
+    ensures { λ _. ⌜ Filled frame a n (now (piece .entry)) (now (red .exit)) (now (green .exit)) (now (blue .exit)) ⌝ }
+{
+    let mut x = [0u16; 65776];
+    let mut d = [0i32; 73998];
+    let mut g = [0u32; 57554];
+    let mut t = [0u32; 16384];
+    let mut f = [0i32; 16384];
+    let mut above = [0u16; 4096];
+    let mut below = [0u16; 4096];
+    fill_planes(
+        frame,
+        a,
+        n,
+        piece,
+        red,
+        green,
+        blue,
+        &mut x,
+        &mut d,
+        &mut g,
+        &mut t,
+        &mut f,
+        &mut above,
+        &mut below,
+    );
+}
+
+// In room for 1024 columns.
+pub fn fill_narrow(
+    frame: Frame,
+    a: usize,
+    n: usize,
+    piece: &[u16],
+    red: &mut [u16],
+    green: &mut [u16],
+    blue: &mut [u16],
+)
+    requires { ⌜ (Readable frame (pieceStart a) (now piece) a n) × (Sized frame n (length (now red)) (length (now green)) (length (now blue))) ⌝ }
+    requires { ⌜ frame .width ≤ 1024 ⌝ }
+    ensures { λ _. ⌜ Filled frame a n (now (piece .entry)) (now (red .exit)) (now (green .exit)) (now (blue .exit)) ⌝ }
+{
+    let mut x = [0u16; 16624];
+    let mut d = [0i32; 18702];
+    let mut g = [0u32; 14546];
+    let mut t = [0u32; 4096];
+    let mut f = [0i32; 4096];
+    let mut above = [0u16; 1024];
+    let mut below = [0u16; 1024];
+    fill_planes(
+        frame,
+        a,
+        n,
+        piece,
+        red,
+        green,
+        blue,
+        &mut x,
+        &mut d,
+        &mut g,
+        &mut t,
+        &mut f,
+        &mut above,
+        &mut below,
+    );
+}
