@@ -8,6 +8,7 @@ mod fields;
 mod fusion_case;
 mod mosaic_case;
 mod piece_case;
+mod preview_case;
 mod print;
 mod recipe;
 mod small_case;

@@ -5,8 +5,8 @@ use crate::fields::least;
 use crate::print;
 use crate::recipe;
 use crate::strip_case;
-use capi::rokzimp_mosaic_back;
-use capi::rokzimp_mosaic_back_check;
+use capi::mosaics::rokzimp_mosaic_back;
+use capi::mosaics::rokzimp_mosaic_back_check;
 
 // The answer of a call of rows a to a + n - 1: the call's number, the check's, and the mosaic.
 fn call<'a>(

@@ -8,8 +8,8 @@ use crate::print;
 use crate::recipe;
 use crate::recipe::times;
 use crate::strip_case;
-use capi::rokzimp_piece_rows;
-use capi::rokzimp_piece_start;
+use capi::pieces::rokzimp_piece_rows;
+use capi::pieces::rokzimp_piece_start;
 
 // The end of so many samples from `from` on, or of the room.
 fn end_of(from: usize, size: usize, room: usize) -> usize

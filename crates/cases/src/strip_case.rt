@@ -1,12 +1,13 @@
 use crate::fields::Fields;
 use crate::fields::byte;
 use crate::fields::least;
+use crate::preview_case;
 use crate::print;
 use crate::recipe;
-use capi::rokzimp_strip;
-use capi::rokzimp_strip_check;
-use capi::rokzimp_strip_smoothed;
-use capi::rokzimp_strip_smoothed_check;
+use capi::strips::rokzimp_strip;
+use capi::strips::rokzimp_strip_check;
+use capi::strips::rokzimp_strip_smoothed;
+use capi::strips::rokzimp_strip_smoothed_check;
 
 // The answer: the two numbers, and the planes.
 fn show(got: u32, first: u32, red: &[u16], green: &[u16], blue: &[u16]) {
@@ -18,7 +19,7 @@ fn show(got: u32, first: u32, red: &[u16], green: &[u16], blue: &[u16]) {
     io::write_all(1, b"\n");
 }
 
-// The call of rows a to a + n - 1, as C calls it: the arguments by their places in include/rokzimp.h. A smoothing above 255 is none that is named.
+// The call of rows a to a + n - 1, as C calls it: the arguments by their places in include/rokzimp.h. Entry 1 is the preview; a smoothing above 255 is none that is named.
 pub fn call(
     f: &Fields,
     a: usize,
@@ -28,6 +29,9 @@ pub fn call(
     green: &mut [u16],
     blue: &mut [u16],
 ) -> u32 {
+    if f[4] == 1 {
+        return preview_case::call(f, a, n, piece, red, green, blue);
+    }
     let layout = byte(f[3]);
     if 255 < f[5] {
         return rokzimp_strip(f[1], f[2], layout, a, n, piece, red, green, blue);
@@ -48,6 +52,9 @@ pub fn call(
 
 // The number that its check gives.
 fn check(f: &Fields, piece: &[u16], red: usize, green: usize, blue: usize) -> u32 {
+    if f[4] == 1 {
+        return preview_case::check(f, piece, red, green, blue);
+    }
     let layout = byte(f[3]);
     if 255 < f[5] {
         return rokzimp_strip_check(f[1], f[2], layout, f[7], f[8], piece, red, green, blue);

@@ -3,9 +3,9 @@ use crate::fields::Fields;
 use crate::fields::least;
 use crate::print;
 use crate::recipe;
-use capi::rokzimp_jump;
-use capi::rokzimp_test_frame;
-use capi::rokzimp_test_row;
+use capi::test_readings::rokzimp_jump;
+use capi::test_readings::rokzimp_test_frame;
+use capi::test_readings::rokzimp_test_row;
 
 fn state(x: usize) -> u32 {
     (x % 4294967296) as u32

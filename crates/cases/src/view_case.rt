@@ -8,13 +8,13 @@ use crate::recipe;
 use bayer::frame::Frame;
 use bayer::view::partner_view;
 use bayer::view::row_view;
-use capi::rokzimp_partner_view_check;
-use capi::rokzimp_partner_view_length;
-use capi::rokzimp_partner_view_plane;
-use capi::rokzimp_partner_view_start;
-use capi::rokzimp_row_view_check;
-use capi::rokzimp_row_view_length;
-use capi::rokzimp_row_view_start;
+use capi::views::rokzimp_partner_view_check;
+use capi::views::rokzimp_partner_view_length;
+use capi::views::rokzimp_partner_view_plane;
+use capi::views::rokzimp_partner_view_start;
+use capi::views::rokzimp_row_view_check;
+use capi::views::rokzimp_row_view_length;
+use capi::views::rokzimp_row_view_start;
 
 // The end of an answer: start, length and checksum of what is shown.
 fn shown(start: usize, length: usize, part: &[u16]) {

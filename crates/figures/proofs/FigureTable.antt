@@ -90,8 +90,10 @@ figures-hold =
     and tt and tt and tt
     and refl and refl and refl and refl and refl and refl
     and tt and tt and tt
-    and tt and tt
+    and tt and tt and tt
     and refl and refl and refl and refl and refl
+    and refl and refl and refl and refl
+    and refl and refl and refl and refl
     and (refl, refl) and (refl, refl) and refl
     and refl and refl and refl and refl and refl
     and refl and refl

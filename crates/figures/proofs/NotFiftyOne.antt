@@ -20,6 +20,7 @@ use Rattle.green_rule.specs.Greens.{greens, exactGreens}
 use Rattle.demosaic.specs.Sample.{sample}
 use Rattle.demosaic.specs.Exact.{exactSample}
 use Rattle.demosaic.proofs.PlaneRowsLaws.{plane-at}
+use Rattle.strip.specs.declared.entry.Entry.the-variants.{FullSize}
 use Rattle.strip.specs.Strip.{asked, stripNumber, Promise}
 use Rattle.strip.proofs.Demand2.{accepted-plane}
 use Rattle.figures.specs.Figures.{frame8}
@@ -30,12 +31,12 @@ unfolding colours colourAt reflect mirror rowOf difference fusion green DH DV GH
 not-51 h = le→leb _ _ (h .low)
 
 -- a strip call over the whole frame accepts it
-pub accepted-51 : stripNumber (asked (frame8 0) 0 8 readings51) 64 64 64 ≡ 0
+pub accepted-51 : stripNumber (asked FullSize (frame8 0) 0 8 readings51) 64 64 64 ≡ 0
 unfolding firstOf any stripNumber
 accepted-51 = refl
 
 -- and if it keeps the contract, it delivers that green
-pub delivered-51 : (lent after : Planes) (answer : ℕ) → ((k : Colour) → length (lent k) ≡ 64) → Promise (asked (frame8 0) 0 8 readings51) lent answer after
+pub delivered-51 : (lent after : Planes) (answer : ℕ) → ((k : Colour) → length (lent k) ≡ 64) → Promise (asked FullSize (frame8 0) 0 8 readings51) lent answer after
     → (answer ≡ 0) × (Within (natural (getD (after Green) 18 0)) (exactSample (frame8 0) 0 readings51 Green 2 2) 51 100 → ⊥)
 delivered-51 lent after answer h p =
     let e : answer ≡ 0 = p .number ∙ rw (h Red, h Green, h Blue) accepted-51 in

@@ -14,7 +14,7 @@ use Rattle.bayer.specs.declared.frame.Frame.{Frame}
 use Rattle.bayer.specs.Frame.{frame, smoothed}
 use Rattle.bayer.specs.Mirror.{mirror}
 use Rattle.bayer.specs.Planes.{threePlanes}
-use Rattle.bayer.specs.Refusal.{Refusal, notCameraPlanes, unknownSmoothing, number, firstOf}
+use Rattle.bayer.specs.Refusal.{Refusal, notCameraPlanes, unknownSmoothing, overPreviewSize, number, firstOf}
 use Rattle.bayer.specs.Condition.{sizeCases}
 use Rattle.gbtf.specs.declared.direction.Direction.{Direction}
 use Rattle.gbtf.specs.Difference.{difference}
@@ -23,6 +23,8 @@ use Rattle.gbtf.specs.Fusion.{smallestSum, share, shares, sharedDifferences, fu
 use Rattle.gbtf.specs.Weights.{scale, weightsOf}
 use Rattle.demosaic.specs.Fill.{fill}
 use Rattle.demosaic.specs.Exact.{printedError}
+use Rattle.strip.specs.declared.entry.Entry.{Entry}
+use Rattle.strip.specs.declared.entry.Entry.the-variants.{FullSize, Preview}
 use Rattle.strip.specs.Strip.{asked, stripNumber}
 use Rattle.remosaic.specs.MosaicBack.{notOfCamera, mosaicRows}
 use Rattle.test_frames.specs.Generator.{readingsAfter}
@@ -45,8 +47,8 @@ pub data Claim : Type 0 where
   -- the hundredths of a unit that plane k may lie from the exact reconstruction
   printedIs : (k : Colour) → ℕ → Claim
   numberIs : Refusal → ℕ → Claim
-  -- the number of a strip call of no row of an 8 by 8 frame of this layout and smoothing, lent nothing
-  noRowIs : (layout smoothing : ℕ) → ℕ → Claim
+  -- the number of a strip call by this entry, of n rows from row a on of a frame of this width, height, layout and smoothing, lent nothing: 4 where no test before that is met
+  nothingLentIs : Entry → (width height layout smoothing a n : ℕ) → ℕ → Claim
   -- the weights of a smoothing, and their total
   weightsAre : (smoothing : ℕ) → List ℕ → (T : ℕ) → Claim
   -- the smoothing of a frame description that names none
@@ -91,7 +93,7 @@ holds (mirrorReads size z v) = T (eqb (mirror size z) v)
 holds (sizesAre width height n) = firstOf (sizeCases width height) ≡ n
 holds (printedIs k n) = T (eqb (printedError k) n)
 holds (numberIs r n) = T (eqb (number r) n)
-holds (noRowIs layout smoothing n) = stripNumber (asked (smoothed 8 8 layout smoothing) 0 0 []) 0 0 0 ≡ n
+holds (nothingLentIs e width height layout smoothing a n k) = stripNumber (asked e (smoothed width height layout smoothing) a n []) 0 0 0 ≡ k
 holds (weightsAre smoothing ws T) = (weightsOf smoothing ≡ ws) × (total ws ≡ T)
 holds (unnamedIs smoothing) = frame 8 8 0 .smoothing ≡ smoothing
 holds (refusedIs sample b) = notOfCamera sample ≡ b
@@ -113,8 +115,10 @@ figures =
     ∷ mirrorReads 2 (negsuc 2) 1 ∷ mirrorReads 2 (pos 4) 0 ∷ mirrorReads 3 (pos 7) 1
     ∷ sizesAre 1 8 1 ∷ sizesAre 8 1 1 ∷ sizesAre 2 2 0 ∷ sizesAre 4096 4096 0 ∷ sizesAre 4097 8 1 ∷ sizesAre 8 4097 1
     ∷ printedIs Red 155 ∷ printedIs Green 53 ∷ printedIs Blue 155
-    ∷ numberIs notCameraPlanes 9 ∷ numberIs unknownSmoothing 10
-    ∷ noRowIs 0 0 3 ∷ noRowIs 0 1 3 ∷ noRowIs 0 2 10 ∷ noRowIs 0 255 10 ∷ noRowIs 4 2 2
+    ∷ numberIs notCameraPlanes 9 ∷ numberIs unknownSmoothing 10 ∷ numberIs overPreviewSize 11
+    ∷ nothingLentIs FullSize 8 8 0 0 0 0 3 ∷ nothingLentIs FullSize 8 8 0 1 0 0 3 ∷ nothingLentIs FullSize 8 8 0 2 0 0 10 ∷ nothingLentIs FullSize 8 8 0 255 0 0 10 ∷ nothingLentIs FullSize 8 8 4 2 0 0 2
+    ∷ nothingLentIs Preview 1024 80 0 1 0 64 4 ∷ nothingLentIs Preview 1025 80 0 1 0 64 11 ∷ nothingLentIs Preview 1024 80 0 1 0 65 11 ∷ nothingLentIs FullSize 1025 80 0 1 0 65 4
+    ∷ nothingLentIs Preview 4097 80 4 2 0 81 1 ∷ nothingLentIs Preview 1025 80 4 2 0 81 2 ∷ nothingLentIs Preview 1025 80 0 2 0 81 10 ∷ nothingLentIs Preview 1025 80 0 1 0 81 3
     ∷ weightsAre 0 (1 ∷ 1 ∷ 1 ∷ 1 ∷ 1 ∷ []) 5 ∷ weightsAre 1 (26 ∷ 24 ∷ 21 ∷ 17 ∷ 12 ∷ []) 100 ∷ unnamedIs 1
     ∷ refusedIs 16 false ∷ refusedIs 17 true ∷ refusedIs 65520 false ∷ refusedIs 65521 true ∷ refusedIs 65536 true
     ∷ mosaicIs 0 8 6400 3200 1600 400 200 100 ∷ mosaicIs 3 2 65520 0 0 4095 0 0

@@ -9,6 +9,7 @@ use Rattle.bayer.specs.Planes.{Planes}
 use Rattle.bayer.specs.Condition.{frameCases, smoothingCases, rangeCases}
 use Rattle.bayer.specs.Refusal.{firstOf}
 use Rattle.bayer.proofs.RefusalLaws.{skip}
+use Rattle.strip.specs.declared.entry.Entry.the-variants.{FullSize}
 use Rattle.strip.specs.Strip.{asked, Promise}
 use Rattle.strip.proofs.WholeFrame.{whole-number, whole-plane}
 use Rattle.plane_text.specs.Text.{lines, refusalLine, printed}
@@ -20,7 +21,7 @@ unfolding firstOf
 number-evenly f readings e = skip (frameCases f) (smoothingCases (f .smoothing)) (rangeCases readings) (λ _. rw e)
 
 module _ (f : Frame) (mosaic : List ℕ) (long : length mosaic ≡ f .width * f .height) {lent after : Planes} {number : ℕ}
-    (p : Promise (asked f 0 (f .height) mosaic) lent number after)
+    (p : Promise (asked FullSize f 0 (f .height) mosaic) lent number after)
     (r : length (lent Red) ≡ length mosaic) (g : length (lent Green) ≡ length mosaic) (b : length (lent Blue) ≡ length mosaic) where
   numbered : number ≡ wholeNumber f mosaic
   numbered = p .number ∙ whole-number f mosaic long (r ∙ long) (g ∙ long) (b ∙ long)

@@ -17,6 +17,7 @@ use Rattle.bayer.specs.Piece.{pieceOf}
 use Rattle.bayer.specs.Planes.{Planes}
 use Rattle.demosaic.proofs.PlaneRowsLaws.{plane-length, plane-at}
 use Rattle.demosaic.proofs.ObservedSample.{observed-sample}
+use Rattle.strip.specs.declared.entry.Entry.{Entry}
 use Rattle.strip.specs.Strip.{asked, Promise}
 use Rattle.strip.specs.Demand.{StripCall, OfMosaic, CalledAll, CoveredBy, Kept}
 use Rattle.strip.proofs.StripLaws.{Fits, fits, RowRead, row-read}
@@ -51,21 +52,21 @@ module _ (f : Frame) (readings : List ℕ) where
       last : (a + n) * W ≤ length readings
       last = let e : a + n - 1 + 1 ≡ a + n = omega arith in rw e at (rows (a + n - 1) (omega arith) (omega arith) .long)
 
-  -- the planes of an accepted strip call give rows a to a + n − 1 of the frame back
-  pub strip-back : (a n : ℕ) {lent after : Planes} {answer : ℕ} → Promise (asked f a n (pieceOf W (f .height) a n readings)) lent answer after → answer ≡ 0 → ComesBack f a n after (part (a * W) (n * W) readings)
-  strip-back a n {lent} {after} p e = read-back a n after (record { frame = w .frame; inside = w .rows; long = long }) (w .some) (row-read f readings a n w) sixteen
+  -- the planes of an accepted strip call, by either entry, give rows a to a + n − 1 of the frame back
+  pub strip-back : {e : Entry} (a n : ℕ) {lent after : Planes} {answer : ℕ} → Promise (asked e f a n (pieceOf W (f .height) a n readings)) lent answer after → answer ≡ 0 → ComesBack f a n after (part (a * W) (n * W) readings)
+  strip-back {e} a n {lent} {after} p accepted = read-back a n after (record { frame = w .frame; inside = w .rows; long = long }) (w .some) (row-read f readings a n w) sixteen
     where
-      w : Fits (asked f a n (pieceOf W (f .height) a n readings)) (length (lent Red)) (length (lent Green)) (length (lent Blue))
-      w = fits (asked f a n (pieceOf W (f .height) a n readings)) _ _ _ (sym (p .number) ∙ e)
+      w : Fits (asked e f a n (pieceOf W (f .height) a n readings)) (length (lent Red)) (length (lent Green)) (length (lent Blue))
+      w = fits (asked e f a n (pieceOf W (f .height) a n readings)) _ _ _ (sym (p .number) ∙ accepted)
 
       long : (k : Colour) → length (after k) ≡ n * W
-      long k = ap length (demand-2 f readings a n p e k) ∙ plane-length f 0 readings a n k
+      long k = ap length (demand-2 f readings a n p accepted k) ∙ plane-length f 0 readings a n k
 
       sixteen : (i j : ℕ) → i < n → j < W → observed f a after i j ≡ 16 * getD readings ((a + i) * W + j) 0
       sixteen i j h g =
           let k = colourAt (f .layout) (a + i) j in
           let z : a + i - 0 ≡ a + i = omega arith in
-          ap (λ l. getD l (i * W + j) 0) (demand-2 f readings a n p e k) ∙ plane-at f 0 readings a n k i j h g ∙ (rw z at (observed-sample f 0 readings (a + i) j (omega (arith, w .rows)) g))
+          ap (λ l. getD l (i * W + j) 0) (demand-2 f readings a n p accepted k) ∙ plane-at f 0 readings a n k i j h g ∙ (rw z at (observed-sample f 0 readings (a + i) j (omega (arith, w .rows)) g))
 
   -- after any list of strip calls, whatever smoothings they name
   module _ (l : List StripCall) (p q : Planes) (lengths : (k : Colour) → length (p k) ≡ W * f .height) (called : CalledAll (OfMosaic f readings) l p q) where

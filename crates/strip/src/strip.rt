@@ -19,7 +19,16 @@ pub fn strip(
 ) -> u32
     ensures { λ r. ⌜ Promise (asked FullSize frame a n (now (piece .entry))) (threePlanes (now (red .entry)) (now (green .entry)) (now (blue .entry))) r (threePlanes (now (red .exit)) (now (green .exit)) (now (blue .exit))) ⌝ }
 {
-    let number = strip_check(Entry::FullSize, frame, a, n, piece, red.len(), green.len(), blue.len());
+    let number = strip_check(
+        Entry::FullSize,
+        frame,
+        a,
+        n,
+        piece,
+        red.len(),
+        green.len(),
+        blue.len(),
+    );
     if number != 0 {
         return number;
     }

@@ -10,6 +10,7 @@ use Rattle.lists.proofs.BoundLaws.{all-part}
 use Rattle.bayer.specs.declared.frame.Frame.{Frame}
 use Rattle.bayer.specs.Piece.{pieceStart, pieceRows, pieceOf}
 use Rattle.bayer.proofs.RefusalLaws.{never}
+use Rattle.strip.specs.declared.entry.Entry.{Entry}
 use Rattle.strip.specs.Strip.{asked, stripNumber}
 use Rattle.test_frames.specs.TestFrame.{testFrame}
 use Rattle.test_frames.proofs.FrameLaws.{readings-range}
@@ -21,11 +22,11 @@ module _ (f : Frame) (seed a n : ℕ) where
   in-range : anyAbove 4095 piece ≡ false
   in-range = above-none 4095 piece (all-part (λ x. x ≤ 4095) 0 (omega arith) (pieceStart a * f .width) (pieceRows (f .height) a n * f .width) _ (readings-range seed (f .width * f .height)))
 
-  -- a strip call that is brought a piece of a test frame is never refused with 6
-  pub never-over-range : (red green blue : ℕ) → stripNumber (asked f a n piece) red green blue ≡ 6 → ⊥
+  -- a strip call, by either entry, that is brought a piece of a test frame is never refused with 6
+  pub never-over-range : (e : Entry) (red green blue : ℕ) → stripNumber (asked e f a n piece) red green blue ≡ 6 → ⊥
   unfolding stripNumber
-  never-over-range red green blue =
+  never-over-range e red green blue =
       never 6 (omega arith) _ (
         λ e. absurd (omega arith),
-        (λ e. absurd (omega arith), (λ e. absurd (omega arith), (λ e. absurd (omega arith), (λ e. absurd (omega arith), (λ e. absurd (omega arith), (λ e. in-range, tt)))))),
+        (λ e. absurd (omega arith), (λ e. absurd (omega arith), (λ e. absurd (omega arith), (λ e. absurd (omega arith), (λ e. absurd (omega arith), (λ e. absurd (omega arith), (λ e. in-range, tt))))))),
       )
