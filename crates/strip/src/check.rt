@@ -3,7 +3,7 @@ ghost use mathlib.Core.List.{_++_};
 ghost use Prim.Native.Nat.{_≤_};
 ghost use Rattle.bayer.specs.Condition.{frameCases, FrameFits, smoothingCases, rowsCases, rangeCases};
 ghost use Rattle.bayer.specs.Refusal.{firstOf};
-ghost use Rattle.strip.specs.Strip.{asked, overPreview, entryCases, lengthCases, stripNumber};
+ghost use Rattle.strip.specs.Strip.{asked, entryCases, lengthCases, stripNumber};
 use crate::entry::Entry;
 use bayer::check::frame_check;
 use bayer::check::planes_misfit;
@@ -18,13 +18,21 @@ use bayer::refusal::WRONG_PIECE_LENGTH;
 use bayer::refusal::WRONG_PLANE_LENGTH;
 use lists::above::any_above;
 
-// Whether the preview is asked for more columns or rows than the unit takes.
-fn over_preview(entry: Entry, w: usize, n: usize) -> bool
-    ensures { λ r. ⌜ r ≡ overPreview entry w n ⌝ }
+// Refusal 11, of the preview: more columns or rows than the unit takes.
+fn entry_check(entry: Entry, w: usize, n: usize) -> u32
+    ensures { λ r. ⌜ r ≡ firstOf (entryCases entry w n) ⌝ }
 {
     match entry {
-        Entry::FullSize => false,
-        Entry::Preview => 1024 < w || 64 < n,
+        Entry::FullSize => 0,
+        Entry::Preview => {
+            if 1024 < w {
+                return OVER_PREVIEW_SIZE;
+            }
+            if 64 < n {
+                return OVER_PREVIEW_SIZE;
+            }
+            0
+        }
     }
 }
 
@@ -42,10 +50,7 @@ fn named_check(entry: Entry, frame: Frame, a: usize, n: usize) -> u32
     if rows_outside(frame.height, a, n) {
         return ROWS_OUTSIDE_FRAME;
     }
-    if over_preview(entry, frame.width, n) {
-        return OVER_PREVIEW_SIZE;
-    }
-    0
+    entry_check(entry, frame.width, n)
 }
 
 // Refusals 4, 5 and 6: of what a call is lent. 6 comes last, as it reads the piece.

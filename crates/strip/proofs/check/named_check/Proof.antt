@@ -10,7 +10,7 @@ use lib.Dec.{ltb}
 use Rattle.bayer.specs.Condition.{frameCases, smoothingCases, rowsOutside, rowsCases}
 use Rattle.bayer.specs.Refusal.{Case, firstOf}
 use Rattle.bayer.proofs.RefusalLaws.{later, sooner}
-use Rattle.strip.specs.Strip.{overPreview, entryCases}
+use Rattle.strip.specs.Strip.{entryCases}
 use Rattle.strip.proofs.check.named_check.Statement.{statement}
 use Rattle.strip.proofs.check.named_check.Tie as tie
 
@@ -23,24 +23,24 @@ returns c = c .before .frame-check .ensures ∙ sym (sooner (frameCases (c .befo
 abbrev smoothing : tie.Else1 → ℕ
 smoothing c = c .before .before .args .frame .smoothing
 
--- all that the call is tested for
+-- the last that the call is tested for, and all of it
+abbrev last : tie.Start → List Case
+last s = let a = s .args in entryCases (a .entry) (a .frame .width) (a .n)
+
 abbrev cases : tie.Start → List Case
-cases s = let a = s .args in frameCases (a .frame) ++ (smoothingCases (a .frame .smoothing) ++ (rowsCases (a .frame) (a .a) (a .n) ++ entryCases (a .entry) (a .frame .width) (a .n)))
+cases s = let a = s .args in frameCases (a .frame) ++ (smoothingCases (a .frame .smoothing) ++ (rowsCases (a .frame) (a .a) (a .n) ++ last s))
 
 -- the frame is passed: its smoothing, the rows and the entry decide
-passed : (c : tie.Else1) → let a = c .before .before .args in
-    firstOf (cases (c .before .before)) ≡ cond (ltb 1 (a .frame .smoothing)) 10 (cond (rowsOutside (a .frame .height) (a .a) (a .n)) 3 (cond (overPreview (a .entry) (a .frame .width) (a .n)) 11 0))
+passed : (c : tie.Else1) → let s = c .before .before in
+    firstOf (cases s) ≡ cond (ltb 1 (smoothing c)) 10 (cond (rowsOutside (s .args .frame .height) (s .args .a) (s .args .n)) 3 (firstOf (last s)))
 unfolding firstOf
-passed c =
-    let a = c .before .before .args in
-    later (frameCases (a .frame)) (smoothingCases (a .frame .smoothing) ++ (rowsCases (a .frame) (a .a) (a .n) ++ entryCases (a .entry) (a .frame .width) (a .n))) (sym (c .before .frame-check .ensures) ∙ c .if1 .left)
+passed c = let s = c .before .before in later (frameCases (s .args .frame)) (smoothingCases (smoothing c) ++ (rowsCases (s .args .frame) (s .args .a) (s .args .n) ++ last s)) (sym (c .before .frame-check .ensures) ∙ c .if1 .left)
 
 returns-2 : tie.Need-returns-2
 returns-2 c = rw (passed (c .before .before), lt-ltb 1 (smoothing (c .before .before)) (omega (arith, c .if2 .taken))) (omega arith)
 
 -- and the smoothing: the rows and the entry decide
-known : (c : tie.Else2) → let a = c .before .before .before .before .args in
-    firstOf (cases (c .before .before .before .before)) ≡ cond (rowsOutside (a .frame .height) (a .a) (a .n)) 3 (cond (overPreview (a .entry) (a .frame .width) (a .n)) 11 0)
+known : (c : tie.Else2) → let s = c .before .before .before .before in firstOf (cases s) ≡ cond (rowsOutside (s .args .frame .height) (s .args .a) (s .args .n)) 3 (firstOf (last s))
 known c = rw (passed (c .before .before), le-ltb 1 (smoothing (c .before .before)) (omega (arith, c .if2 .left)))
 
 rows-outside-requires : tie.Need-rows-outside-requires
@@ -49,19 +49,11 @@ rows-outside-requires c κs = search needs
 returns-3 : tie.Need-returns-3
 returns-3 c = rw (known (c .before .before), sym (c .before .rows-outside .ensures) ∙ c .if3 .taken) (omega arith)
 
--- and the rows: the entry decides
-inside : (c : tie.Else3) → let a = c .before .before .before .before .before .before .args in
-    firstOf (cases (c .before .before .before .before .before .before)) ≡ cond (overPreview (a .entry) (a .frame .width) (a .n)) 11 0
-inside c = rw (known (c .before .before), sym (c .before .rows-outside .ensures) ∙ c .if3 .left)
-
-over-preview-requires : tie.Need-over-preview-requires
-over-preview-requires c κs = search needs
+entry-check-requires : tie.Need-entry-check-requires
+entry-check-requires c κs = search needs
 
 returns-4 : tie.Need-returns-4
-returns-4 c = rw (inside (c .before .before), sym (c .before .over-preview .ensures) ∙ c .if4 .taken) (omega arith)
-
-returns-5 : tie.Need-returns-5
-returns-5 c = rw (inside (c .before .before), sym (c .before .over-preview .ensures) ∙ c .if4 .left) (omega arith)
+returns-4 c = let e = c .before in rw (known (e .before .before), sym (e .before .rows-outside .ensures) ∙ e .if3 .left) (c .entry-check .ensures)
 
 pub named-check-spec : {M : Type 1} → statement M
-named-check-spec = tie.close (tie.spec frame-check-requires returns returns-2 rows-outside-requires returns-3 over-preview-requires returns-4 returns-5)
+named-check-spec = tie.close (tie.spec frame-check-requires returns returns-2 rows-outside-requires returns-3 entry-check-requires returns-4)
