@@ -93,9 +93,9 @@ pub fn strip_check(
 ) -> u32
     ensures { λ r. ⌜ r ≡ stripNumber (asked entry frame a n (now (piece .entry))) red green blue ⌝ }
 {
-    let number = named_check(entry, frame, a, n);
-    if number != 0 {
-        return number;
+    let named = named_check(entry, frame, a, n);
+    if named != 0 {
+        return named;
     }
     lent_check(frame, a, n, piece, red, green, blue)
 }

@@ -21,11 +21,11 @@ returns : tie.Need-returns
 unfolding stripNumber
 returns c =
     let e = c .before .named-check .ensures in
-    e ∙ sym (sooner (named (c .before .before .before)) _ (λ z. c .if1 .taken (e ∙ z)))
+    e ∙ sym (sooner (named (c .before .before .before)) _ (λ z. omega (arith, c .if1 .taken, e, z)))
 
 -- what is named is passed
 zero : (c : tie.Else1) → firstOf (named (c .before .before .before)) ≡ 0
-zero c = sym (c .before .named-check .ensures) ∙ c .if1 .left
+zero c = omega (arith, c .before .named-check .ensures, c .if1 .left)
 
 lent-check-requires : tie.Need-lent-check-requires
 lent-check-requires c κs =

@@ -1,6 +1,6 @@
 -- `strip::preview::preview` meets its contract. Assumes nothing.
 use native.Mathlib.Omega.{arith}
-use mathlib.Core.Path.{_≡_, sym, _∙_}
+use mathlib.Core.Path.{_≡_, sym}
 use lib.ListN.{length}
 use borrow.Author.Needs.{needs}
 use Rattle.bayer.specs.Planes.{threePlanes}
@@ -19,7 +19,7 @@ abbrev start : tie.After-strip-check → tie.Start
 start c = c .before .before .before .before .before
 
 accepted : (c : tie.Else1) → let a = start (c .before) .args in 0 ≡ stripNumber (what (start (c .before))) (length (a .red .now)) (length (a .green .now)) (length (a .blue .now))
-accepted c = sym (c .if1 .left) ∙ c .before .strip-check .ensures
+accepted c = omega (arith, c .if1 .left, c .before .strip-check .ensures)
 
 abbrev filled : tie.After-slice-known6 → tie.After-fill-narrow
 filled c = c .before .before .before .before .before .before
