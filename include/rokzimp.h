@@ -1,5 +1,5 @@
-/* rokzimp.h - red, green and blue planes from a Bayer mosaic: strip calls, views of the planes, and the mosaic back from them; and
- * test frames that anyone can make from a seed.
+/* rokzimp.h - red, green and blue planes from a Bayer mosaic: strip calls, by the full-size entry and by the preview, views of the
+ * planes, and the mosaic back from them; and test frames that anyone can make from a seed.
  *
  * Each function below is proved to return, to answer and to write what is said of it, for every value of its arguments
  * (crates/capi/src/lib.rt has the contracts). What is said of stack, heap and locks was measured and seen in the code, not proved.
@@ -7,24 +7,24 @@
  *
  *   - A pointer and the count after it are one run of that many 16-bit samples, at an even address, which the call may read and, where the pointer
  *     is not to const, write. With a count of 0 the pointer is not used, and must still not be NULL.
- *   - A run that is written (red, green, blue of a strip; the mosaic that is given back; a test frame or its row) overlaps no
- *     other run of the same call. Runs that are only read may overlap each other.
+ *   - A run that is written (red, green, blue of a strip or a preview; the mosaic that is given back; a test frame or its row)
+ *     overlaps no other run of the same call. Runs that are only read may overlap each other.
  *   - No other thread writes a run of the call while it runs, nor reads one that it writes.
  *
  * The library keeps no memory between calls, takes no lock and no heap, and prints nothing. Calls in several threads are
- * independent; strips of one frame may run at the same time, each into its own rows. A strip call takes about
- * 810 KB of stack, whatever the size of the frame: a thread that calls it needs a stack of 1 MB at the least. The others take
- * next to none.
+ * independent; strips and previews of one frame may run at the same time, each into its own rows. A strip takes about 810 KB of
+ * stack, whatever the size of the frame: a thread that calls it needs a stack of 1 MB at the least. A preview takes about 205 KB: a
+ * thread that calls no strip needs 256 KB at the least. The others take next to none.
  *
  * A frame has `width` columns and `height` rows, each 2 to 4096. Rows and columns count from 0. Readings are 0 to 4095. The
  * layout gives the colours of an even and of an odd row: 0 = RG GB, 1 = GR BG, 2 = GB RG, 3 = BG GR. It is a byte here: C
  * cuts a wider number to its low byte without a word, so test a wider one before the call. The smoothing is a byte too: it says
- * how a strip weights the five differences of a direction, from the pixel outward: 0 = evenly, 1 = 26, 24, 21, 17 and 12 hundredths.
- * Samples are in sixteenths of a reading, 0 to 65520. The observed sample of a pixel is the one in the plane of its filter's
- * colour. Mosaics and planes are stored row by row, without gaps.
+ * how a strip or a preview weights the five differences of a direction, from the pixel outward: 0 = evenly, 1 = 26, 24, 21, 17 and
+ * 12 hundredths. Samples are in sixteenths of a reading, 0 to 65520. The observed sample of a pixel is the one in the plane of its
+ * filter's colour. Mosaics and planes are stored row by row, without gaps.
  *
- * What a strip, a mosaic back, a test frame, its row and the checks return is 0, or the number of a refusal. Of several that
- * hold, the one that is tested first is returned. A refused call changes no sample. */
+ * What a strip, a preview, a mosaic back, a test frame, its row and the checks return is 0, or the number of a refusal. Of several
+ * that hold, the one that is tested first is returned. A refused call changes no sample. */
 #ifndef ROKZIMP_H
 #define ROKZIMP_H
 
@@ -47,22 +47,24 @@ enum {
     ROKZIMP_OVER_RANGE = 6,     /* "over range": some reading of the piece is above 4095 */
     ROKZIMP_NO_SUCH_ROW = 7,    /* "no such row": a plane is shorter than (row + 1) * width, not wrapped; partner view: or row >= height */
     /* 8 is for what the two programs read, which no function here does */
-    ROKZIMP_NOT_CAMERA_PLANES = 9, /* "not camera planes": an observed sample is not a multiple of 16, or is above 65520 */
-    ROKZIMP_UNKNOWN_SMOOTHING = 10 /* "unknown smoothing": smoothing above 1; strips only */
+    ROKZIMP_NOT_CAMERA_PLANES = 9,  /* "not camera planes": an observed sample is not a multiple of 16, or is above 65520 */
+    ROKZIMP_UNKNOWN_SMOOTHING = 10, /* "unknown smoothing": smoothing above 1; strips and previews only */
+    ROKZIMP_OVER_PREVIEW_SIZE = 11  /* "over preview size": width above 1024, or rows above 64; previews only */
 };
 
-/* The rows of the mosaic that a strip of `rows` rows from `first_row` on is lent: rokzimp_piece_rows rows from row
+/* The rows of the mosaic that a strip or a preview of `rows` rows from `first_row` on is lent: rokzimp_piece_rows rows from row
  * rokzimp_piece_start on. That is from max(0, first_row - 7) to min(height, first_row + rows + 7) - 1, nothing wrapped; no rows
  * where that is none. For a strip of a frame of at most 8 rows it is the whole frame. */
 size_t rokzimp_piece_start(size_t first_row);
 size_t rokzimp_piece_rows(size_t height, size_t first_row, size_t rows);
 
-/* A strip: fills rows first_row to first_row + rows - 1 of the three planes. `piece` is the rows of the mosaic named above, all
- * columns; its count and those of the planes are of samples. Tests 1, 2, 10, 3, 4, 5 and 6, in that order. Returns 0 and every
- * sample of the three planes is written; or the refusal, and none is. The piece is only read. Every sample of green then lies
- * within 0.53 units, and every one of red and blue within 1.55, of the exact reconstruction of the whole frame, which is the same
- * rules with the same smoothing and nothing rounded (docs/PROVED.md, demand 3); a unit is a sixteenth of a reading. The same holds
- * of a whole plane if all its strips are of one smoothing. The observed sample is 16 times the reading. */
+/* A strip, by the full-size entry: fills rows first_row to first_row + rows - 1 of the three planes. `piece` is the rows of the
+ * mosaic named above, all columns; its count and those of the planes are of samples. Tests 1, 2, 10, 3, 4, 5 and 6, in that order.
+ * Returns 0 and every sample of the three planes is written; or the refusal, and none is. The piece is only read. Every sample of
+ * green then lies within 0.53 units, and every one of red and blue within 1.55, of the exact reconstruction of the whole frame,
+ * which is the same rules with the same smoothing and nothing rounded (docs/PROVED.md, demand 3); a unit is a sixteenth of a
+ * reading. The same holds of a whole plane if all its strips and previews are of one smoothing. The observed sample is 16 times the
+ * reading. */
 uint32_t rokzimp_strip_smoothed(size_t width, size_t height, uint8_t layout, uint8_t smoothing, size_t first_row, size_t rows,
                                 const uint16_t *piece, size_t piece_count,
                                 uint16_t *red, size_t red_count,
@@ -86,6 +88,33 @@ uint32_t rokzimp_strip(size_t width, size_t height, uint8_t layout, size_t first
 uint32_t rokzimp_strip_check(size_t width, size_t height, uint8_t layout, size_t first_row, size_t rows,
                              const uint16_t *piece, size_t piece_count,
                              size_t red_count, size_t green_count, size_t blue_count);
+
+/* A preview: a strip for the unit beside the chair, which shows at most 1024 columns and takes at most 64 rows in a strip. Arguments,
+ * what is written and what is returned are as for rokzimp_strip_smoothed; it takes about a quarter of the stack. Tests 1, 2, 10, 3,
+ * 11, 4, 5 and 6, in that order. What it accepts rokzimp_strip_smoothed accepts too, and both leave the same samples. So strips and
+ * previews of one frame may be mixed freely: if they are of one smoothing there are no seams, and the error above holds. */
+uint32_t rokzimp_preview_smoothed(size_t width, size_t height, uint8_t layout, uint8_t smoothing, size_t first_row, size_t rows,
+                                  const uint16_t *piece, size_t piece_count,
+                                  uint16_t *red, size_t red_count,
+                                  uint16_t *green, size_t green_count,
+                                  uint16_t *blue, size_t blue_count);
+
+/* The number that rokzimp_preview_smoothed returns for such a call, and nothing else done. */
+uint32_t rokzimp_preview_smoothed_check(size_t width, size_t height, uint8_t layout, uint8_t smoothing, size_t first_row, size_t rows,
+                                        const uint16_t *piece, size_t piece_count,
+                                        size_t red_count, size_t green_count, size_t blue_count);
+
+/* The same with no smoothing named, which is 1; so these never return 10. */
+uint32_t rokzimp_preview(size_t width, size_t height, uint8_t layout, size_t first_row, size_t rows,
+                         const uint16_t *piece, size_t piece_count,
+                         uint16_t *red, size_t red_count,
+                         uint16_t *green, size_t green_count,
+                         uint16_t *blue, size_t blue_count);
+
+/* The number that rokzimp_preview returns for such a call, and nothing else done. */
+uint32_t rokzimp_preview_check(size_t width, size_t height, uint8_t layout, size_t first_row, size_t rows,
+                               const uint16_t *piece, size_t piece_count,
+                               size_t red_count, size_t green_count, size_t blue_count);
 
 /* The mosaic back: writes the readings of rows first_row to first_row + rows - 1 of the frame into `mosaic`, from the three planes
  * of the same rows. A reading is the observed sample of its pixel, divided by 16; what the other samples hold does not matter.

@@ -1,5 +1,5 @@
 /* The strip call of reference/demosaic.c, for the stress test and the benchmark; the latter compiles it twice, under names of its
- * own. choice -1, method -1, nb -1 and preview 0: the call names none of them. */
+ * own. choice -1, method -1 and nb -1: the call names none of them. preview 0 is the full-size entry, 1 the preview. */
 #ifndef STRIP_GENERAL_H
 #define STRIP_GENERAL_H
 
