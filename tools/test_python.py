@@ -1,13 +1,14 @@
 #!/usr/bin/env python3
 """Tests of python/rokzimp.py, tools/frame_to_png.py, tools/planes_to_frame.py and tools/seed_to_frame.py, and with them of the C
 library: document 01's examples, each refusal, that nothing is copied, that any cutting into strips and any number of threads give
-the same planes, that the mosaic comes back from them, test frames, and frames compared with reference/reference.py.
+the same planes, the preview, that the mosaic comes back from them, test frames, and frames compared with reference/reference.py.
 
     tools/build_library.sh && tools/test_python.py"""
 import array
 import ctypes
 import os
 import random
+import re
 import struct
 import subprocess
 import sys
@@ -80,6 +81,13 @@ class Test(unittest.TestCase):
                 self.assertEqual(plane, samples([value] * 64))
 
     # refusals
+
+    def test_words(self):
+        """The header has the module's numbers and words, but for 8, which is the programs'."""
+        with open(os.path.join(ROOT, "include", "rokzimp.h")) as file:
+            named = re.findall(r'ROKZIMP_(\w+) = (\d+),? +/\* "([^"]+)"', file.read())
+        self.assertEqual({int(number): word for _, number, word in named}, {n: word for n, (word, _) in rokzimp.WORDS.items() if n != 8})
+        self.assertEqual([name.lower().replace("_", " ") for name, _, _ in named], [word for _, _, word in named])
 
     def test_refusals(self):
         mosaic, (red, green, blue) = samples([100] * 64), planes(64)
@@ -222,6 +230,7 @@ class Test(unittest.TestCase):
         tracemalloc.start()
         try:
             whole_frame(1024, 64, 0, mosaic, *lent, 16)
+            whole_frame(1024, 64, 0, mosaic, *lent, preview=True)
             row_view(lent[0], 1024, 3)
             partner_view(lent[0], lent[2], 1024, 64, 0, 3)
             mosaic_back(1024, 64, 0, 0, 64, *lent, back)
@@ -300,6 +309,101 @@ class Test(unittest.TestCase):
         for thread in threads:
             thread.join()
         self.assertEqual(tuple(lent), wanted)
+
+    # the preview
+
+    def test_preview_fills_as_a_strip(self):
+        rng = random.Random(18)
+        for width, height, first, rows in ((2, 2, 0, 2), (8, 8, 3, 1), (13, 31, 9, 20), (1023, 9, 0, 2), (1024, 12, 5, 3), (3, 70, 0, 63),
+                                           (3, 70, 6, 64), (1024, 80, 8, 64)):
+            piece = piece_of(random_mosaic(rng, width * height), width, height, first, rows)
+            for smoothing in (None, 0, 1):
+                layout, full, small = rng.randrange(4), planes(rows * width), planes(rows * width, 8)
+                strip(width, height, layout, first, rows, piece, *full, smoothing=smoothing)
+                strip(width, height, layout, first, rows, piece, *small, smoothing=smoothing, preview=True)
+                self.assertEqual(full, small)
+
+    def test_preview_sizes(self):
+        for width, height, rows in ((1024, 2, 2), (2, 64, 64), (2, 4096, 64), (1024, 64, 64)):
+            piece, lent = samples([100] * (piece_rows(height, 0, rows) * width)), planes(rows * width)
+            strip(width, height, 0, 0, rows, piece, *lent, preview=True)
+            self.assertEqual(lent, planes(rows * width, 1600))
+
+    def test_over_preview_size(self):
+        """The preview refuses and writes nothing; the full-size entry fills."""
+        for width, height, rows in ((1025, 2, 1), (4096, 2, 2), (2, 65, 65), (2, 4096, 4096), (1025, 64, 64), (1024, 65, 65), (1025, 65, 65)):
+            piece, lent = samples([100] * (piece_rows(height, 0, rows) * width)), planes(rows * width)
+            self.refused(11, strip, width, height, 0, 0, rows, piece, *lent, preview=True)
+            self.assertEqual(lent, planes(rows * width))
+            strip(width, height, 0, 0, rows, piece, *lent)
+            self.assertEqual(lent, planes(rows * width, 1600))
+
+    def test_preview_order(self):
+        """Everything wrong, then one thing less each time. Where the preview refuses with 11, the full-size entry goes on to 4."""
+        piece, (red, green, blue) = samples([100] * (66 * 1024)), planes(64 * 1024)
+        asked = dict(width=4097, height=66, layout=4, first_row=2, rows=65, piece=samples([4096]),
+                     red=red[:1], green=green[:1], blue=blue[:1], smoothing=2)
+        for number, name, better in ((1, "width", 1025), (2, "layout", 0), (10, "smoothing", 1), (3, "first_row", 1), (11, "width", 1024),
+                                     (11, "rows", 64), (4, "piece", piece[:-1] + samples([4096])), (5, "red", red), (5, "green", green),
+                                     (5, "blue", blue), (6, "piece", piece)):
+            self.refused(number, strip, **asked, preview=True)
+            self.refused(4 if number == 11 else number, strip, **asked)
+            asked[name] = better
+        self.assertEqual([red, green, blue], planes(64 * 1024))
+        strip(**asked, preview=True)
+        self.assertEqual([red, green, blue], planes(64 * 1024, 1600))
+
+    def test_whole_frame_by_preview(self):
+        rng = random.Random(19)
+        for width, height in ((1024, 130), (2, 4096), (13, 65), (8, 8)):
+            mosaic, layout = random_mosaic(rng, width * height), rng.randrange(4)
+            for smoothing in (None, 0):
+                wanted = whole_frame(width, height, layout, mosaic, smoothing=smoothing)
+                for rows, threads in ((64, 1), (7, 1), (height, 1), (64, 2), (5, 3), (height, 300)):
+                    lent = planes(width * height)
+                    self.assertEqual(whole_frame(width, height, layout, mosaic, *lent, rows, threads, smoothing, preview=True), wanted)
+                    self.assertEqual(tuple(lent), wanted)
+
+    def test_whole_frame_calls_the_preview(self):
+        for smoothing, name, place in ((None, "rokzimp_preview", 4), (0, "rokzimp_preview_smoothed", 5)):
+            for strip_height, cut in ((64, [64, 64, 2]), (65, [64, 64, 2]), (4096, [64, 64, 2]), (50, [50, 50, 30])):
+                with unittest.mock.patch.object(rokzimp._library, name, return_value=0) as called:
+                    whole_frame(2, 130, 0, samples([100] * 260), strip_height=strip_height, smoothing=smoothing, preview=True)
+                self.assertEqual([call.args[place] for call in called.call_args_list], cut)
+
+    def test_whole_frame_by_preview_refused(self):
+        """Everything wrong, then one thing less each time; the last reading alone is over range, and nothing is written."""
+        mosaic, (red, green, blue) = samples([100] * (130 * 1024)), planes(130 * 1024)
+        asked = dict(width=5000, height=130, layout=4, mosaic=samples([4096]), red=red[:1], green=green[:1], blue=blue[:1], smoothing=2)
+        for number, name, better in ((1, "width", 2000), (2, "layout", 0), (10, "smoothing", 1), (11, "width", 1025), (11, "width", 1024),
+                                     (4, "mosaic", mosaic[:-1] + samples([4096])), (5, "red", red), (5, "green", green), (5, "blue", blue),
+                                     (6, "mosaic", mosaic)):
+            for threads in (1, 2):
+                self.refused(number, whole_frame, **asked, threads=threads, preview=True)
+            self.refused(4 if number == 11 else number, whole_frame, **asked)
+            asked[name] = better
+        self.assertEqual([red, green, blue], planes(130 * 1024))
+        whole_frame(**asked, preview=True)
+        self.assertEqual([red, green, blue], planes(130 * 1024, 1600))
+
+    def test_strips_and_previews_mixed(self):
+        rng = random.Random(20)
+        for width, height, most in ((1024, 70, 20), (9, 300, 64), (2, 9, 2)):
+            mosaic, layout, smoothing = random_mosaic(rng, width * height), rng.randrange(4), rng.choice((None, 0))
+            lent, first, preview = planes(width * height), 0, False
+            while first < height:
+                rows = min(rng.randrange(1, most + 1), height - first)
+                part = slice(first * width, (first + rows) * width)
+                strip(width, height, layout, first, rows, piece_of(mosaic, width, height, first, rows),
+                      *(memoryview(p)[part] for p in lent), smoothing=smoothing, preview=preview)
+                first, preview = first + rows, not preview
+            self.assertEqual(tuple(lent), whole_frame(width, height, layout, mosaic, strip_height=height, smoothing=smoothing))
+
+    def test_preview_example(self):
+        self.assertEqual(whole_frame(8, 8, 0, test_frame(0, 8, 8), preview=True)[1][0], 7682)
+        with self.assertRaises(Refused) as caught:
+            whole_frame(1025, 8, 0, test_frame(0, 1025, 8), preview=True)
+        self.assertEqual((caught.exception.number, caught.exception.word), (11, "over preview size"))
 
     # the mosaic back
 
@@ -515,23 +619,28 @@ class Test(unittest.TestCase):
         rng, seen = random.Random(5), set()
         for k in range(600):
             width, height, layout = rng.randrange(1, 14), rng.randrange(1, 30), rng.randrange(5)
-            first, rows = rng.randrange(height + 2), rng.randrange(5)
+            first, rows, preview = rng.randrange(height + 2), rng.randrange(5), rng.randrange(2) == 1
+            if k % 60 == 0:  # about the preview's limits
+                width = rng.choice((1024, 1025))
+            if k % 60 == 30:
+                height, first, rows = 70, rng.randrange(8), rng.choice((64, 65))
             lengths = [max(0, rows * width + rng.choice((0, 0, 0, 0, 0, 0, 0, 1, -1))) for _ in range(3)]
             count = max(0, piece_rows(height, first, rows) * width + rng.choice((0, 0, 0, 0, 0, 0, 0, 0, 1, -1)))
             piece = random_mosaic(rng, count)
             if count and rng.randrange(4) == 0:
                 piece[rng.randrange(count)] = 4096
             wanted, smoothing = [[5] * length for length in lengths], rng.choice((None, 0, 0, 1, 1, 1, 2, 255))
-            number = reference.strip_call(RULES, reference.Frame(width, height, layout, smoothing), first, rows, piece.tolist(), wanted)
+            frame = reference.Frame(width, height, layout, smoothing)
+            number = reference.strip_call(RULES, frame, first, rows, piece.tolist(), wanted, preview=preview)
             got = [samples([5] * length) for length in lengths]
             try:
-                strip(width, height, layout, first, rows, piece, *got, smoothing=smoothing)
+                strip(width, height, layout, first, rows, piece, *got, smoothing=smoothing, preview=preview)
                 self.assertEqual(number, 0)
             except Refused as refused:
                 self.assertEqual(number, refused.number)
             self.assertEqual([p.tolist() for p in got], wanted)
             seen.add(number)
-        self.assertEqual(seen, {0, 1, 2, 3, 4, 5, 6, 10})
+        self.assertEqual(seen, {0, 1, 2, 3, 4, 5, 6, 10, 11})
 
     def test_reference_mosaic_back(self):
         rng, seen = random.Random(12), set()
