@@ -9,10 +9,11 @@ A line is a letter and then whole numbers, single spaces between them; a '#' lin
 S W H layout  entry choice method  a n  P R G B  width seed base down across oddrow oddcol checker from step kind amount shape at value at value first
   nb given advance {first count method smoothing}*given
     A strip call. P, R, G, B are the lengths of the piece and of the planes that are lent; from width to first it is the recipe of their contents.
-    choice is the smoothing: up to 255 it is named, by rokzimp_strip_smoothed and its check; 256: none is, by rokzimp_strip and its check.
-    entry, method and the bands have their places for requests of document 02 that have not landed. A case names none of them, which is
-    0, 256 and at the end 255 0 0, and the program does not read them. Entry 1 will be the preview's; and where a table is lent it has nb bands:
-    band t is number t % given of those given, 6 at the most, with advance (t / given) added to its first row.
+    entry is 0 for the full-size entry, rokzimp_strip.., and 1 for the preview, rokzimp_preview.. choice is the smoothing: up to 255 it is named, by
+    rokzimp_strip_smoothed or rokzimp_preview_smoothed and its check; 256: none is, by rokzimp_strip or rokzimp_preview and its check.
+    method and the bands have their places for requests of document 02 that have not landed. A case names none of them, which is 256 and at the
+    end 255 0 0, and the program does not read them. Where a table is lent it will have nb bands: band t is number t % given of those given, 6 at
+    the most, with advance (t / given) added to its first row.
     Answer: the number of the call, that of the check, and for each plane sum, checksum, first and last sample.
 C ..
     Every strip of a frame of at most 9 rows and columns: with the same numbers as by S, of which a, n, P, R, G, B are not read, width is W and first 0. All
@@ -70,6 +71,7 @@ MOST_PIECE, MOST_PLANE = 4096 * 22, 4096 * 8 + 8
 LEAST = RULES.min_size               # of width and height
 UNNAMED = 256                        # a smoothing, or a method, that is not named
 NO_BANDS = [255, 0, 0]
+FULL_SIZE, PREVIEW = 0, 1            # entries
 ABOVE_ZERO = 2 ** 21                 # added to a five-sum; above 16380 times the largest total of weights
 
 
@@ -138,12 +140,12 @@ def strip_of(v):
     """The numbers of the strip call and of its check, and the planes that it leaves."""
     (W, H, layout), (a, n, P, R, G, B, width, seed) = v[:3], v[6:14]
     p, puts, first = v[14:25], [(v[25], v[26]), (v[27], v[28])], v[29]
-    assert v[3] == 0 and v[5] == UNNAMED and v[30:] == NO_BANDS, v
+    assert v[3] in (FULL_SIZE, PREVIEW) and v[5] == UNNAMED and v[30:] == NO_BANDS, v
     piece = expand_piece(P, max(width, 1), seed, p, puts, first)
     planes = planes_of(seed, R, G, B)
-    f = r.Frame(W, H, layout, None if v[4] == UNNAMED else v[4])
-    num = r.strip_number(RULES, f, a, n, piece, planes)
-    return r.strip_call(RULES, f, a, n, piece, planes), num, planes
+    f, preview = r.Frame(W, H, layout, None if v[4] == UNNAMED else v[4]), v[3] == PREVIEW
+    num = r.strip_number(RULES, f, a, n, piece, planes, preview=preview)
+    return r.strip_call(RULES, f, a, n, piece, planes, preview=preview), num, planes
 
 
 def answer_S(v):
@@ -160,7 +162,7 @@ def answer_C(v):
         for n in range(1, H - a + 1):
             lo, hi = r.strip_rows(H, a, n)
             planes = [[0] * (n * W) for _ in range(3)]
-            assert r.strip_call(RULES, f, a, n, mosaic[lo * W:hi * W], planes) == 0
+            assert r.strip_call(RULES, f, a, n, mosaic[lo * W:hi * W], planes, preview=v[3] == PREVIEW) == 0
             for strips, plane in zip(out, planes):
                 strips += plane
     return [len(out[0])] + [n for q in out for n in shown(q)]
@@ -259,7 +261,8 @@ class Maker:
         ans = ANSWER[kind](v)
         self.lines.append(' '.join(map(str, [kind] + v)))
         self.answers.append(' '.join(map(str, ans)))
-        key = kind + str(ans[0]) if kind in 'SMBWLVQ' else kind
+        preview = 'p' if kind in 'SBC' and v[3] == PREVIEW else ''         # counted apart
+        key = kind + preview + (str(ans[0]) if kind in 'SMBWLVQ' else '')
         self.count[key] = self.count.get(key, 0) + 1
         return ans
 
@@ -299,7 +302,7 @@ class Maker:
         return out
 
     # -------------------------------------------------------- a strip call
-    def strip(self, W, H, layout, a, n, recipe=None, puts=None, seed=None, P=None, planes=None, true=None, kind='S', choice=None):
+    def strip(self, W, H, layout, a, n, recipe=None, puts=None, seed=None, P=None, planes=None, true=None, kind='S', choice=None, entry=FULL_SIZE):
         """The lengths are the right ones of the call `true` (W, H, a, n), or of this one, unless they are given. The smoothing is 0, 1 or not named, in turn,
         unless it is given."""
         w, h, b, m = true or (W, H, a, n)
@@ -312,7 +315,7 @@ class Maker:
         seed = r.jump(self.g.randrange(M32) if seed is None else seed, lo * w)
         if choice is None:
             choice, self.turn = (0, 1, UNNAMED)[self.turn % 3], self.turn + 1
-        return self.add(kind, W, H, layout, 0, choice, UNNAMED, a, n, P, *planes, w, seed, *recipe.numbers(),
+        return self.add(kind, W, H, layout, entry, choice, UNNAMED, a, n, P, *planes, w, seed, *recipe.numbers(),
                         *[n for put in puts for n in put], lo, *NO_BANDS)
 
     def cut(self, H):
@@ -330,28 +333,28 @@ class Maker:
         return g.choice((g.randrange(LEAST, 8), 8, 9, g.randrange(8, 20), g.randrange(8, top + 1)))
 
     def accepted(self, count):
-        self.note('strips of frames of %d to 40 rows and columns, cut anywhere' % LEAST)
+        self.note('strips of frames of %d to 40 rows and columns, cut anywhere, by either entry' % LEAST)
         for k in range(count):
             W, H = self.size(), self.size()
             a, n = self.cut(H)
-            assert self.strip(W, H, k % 4, a, n)[0] == 0
+            assert self.strip(W, H, k % 4, a, n, entry=k // 4 % 2)[0] == 0
 
     def cuts(self):
-        self.note('one frame in every cut of 1 row and of several, and whole')
+        self.note('one frame in every cut of 1 row and of several, and whole; the entries in turn')
         for W, H, layout, choice in ((11, 19, 0, 0), (8, 16, 1, 1), (9, 23, 2, UNNAMED), (12, 17, 3, 0)):
             seed, rec = self.g.randrange(M32), self.recipe(W, H)
             for n in (1, self.g.randrange(2, 6), H):
                 for a in range(0, H, n):
-                    assert self.strip(W, H, layout, a, min(n, H - a), rec, [], seed, choice=choice)[0] == 0
+                    assert self.strip(W, H, layout, a, min(n, H - a), rec, [], seed, choice=choice, entry=a // n % 2)[0] == 0
 
     def small(self):
-        self.note('every strip of frames of %d to 9 rows and columns' % LEAST)
+        self.note('every strip of frames of %d to 9 rows and columns, of each size by either entry' % LEAST)
         for W in range(LEAST, 10):
             for H in range(LEAST, 10):
                 # the rules read at most 6 outside, so of 7 and more one reflection is enough
                 wrongs = (edge_repeated, reflected_once) if min(W, H) < 7 else (edge_repeated,)
                 for layout in range(4):
-                    right = self.strip(W, H, layout, 0, H, self.textured(), [], kind='C')
+                    right = self.strip(W, H, layout, 0, H, self.textured(), [], kind='C', entry=(W + H + layout) % 2)
                     line = list(map(int, self.lines[-1].split()[1:]))
                     for wrong in wrongs:
                         with unittest.mock.patch.object(r, 'mirror', wrong):
@@ -368,7 +371,7 @@ class Maker:
             seed, (a, n) = g.randrange(M32), (0, H) if k % 2 else self.cut(H)
 
             def call(choice):
-                return self.strip(W, H, k % 4, a, n, rec, [], seed, choice=choice)
+                return self.strip(W, H, k % 4, a, n, rec, [], seed, choice=choice, entry=k // 4 % 2)
             even, tapered, unnamed = call(0), call(1), call(UNNAMED)
             assert even[0] == tapered[0] == 0 and unnamed == tapered
             for d in range(4):
@@ -419,13 +422,13 @@ class Maker:
 
     def over_range(self, count):
         self.note('one reading above 4095, anywhere in the piece')
-        for _ in range(count):
+        for k in range(count):
             W, H = self.size(24), self.size(30)
             a, n = self.cut(H)
             lo, hi = r.strip_rows(H, a, n)
             P = (hi - lo) * W
             at = self.g.choice((0, P - 1, self.g.randrange(P), self.g.randrange(P)))
-            assert self.strip(W, H, self.g.randrange(4), a, n, puts=[(at, self.g.choice((4096, 4096, 65535)))])[0] == 6
+            assert self.strip(W, H, self.g.randrange(4), a, n, puts=[(at, self.g.choice((4096, 4096, 65535)))], entry=k % 2)[0] == 6
 
     def lengths(self, count):
         g = self.g
@@ -437,11 +440,11 @@ class Maker:
             P = (hi - lo) * W
             d = g.choice((1, -1))
             if k % 4 == 0:
-                assert self.strip(W, H, g.randrange(4), a, n, P=g.choice((P + d, P + d * W, 0)))[0] == 4
+                assert self.strip(W, H, g.randrange(4), a, n, P=g.choice((P + d, P + d * W, 0)), entry=k // 4 % 2)[0] == 4
             else:
                 planes = [n * W] * 3
                 planes[k % 4 - 1] = g.choice((n * W + d, n * W + d, 0))
-                assert self.strip(W, H, g.randrange(4), a, n, planes=planes)[0] == 5
+                assert self.strip(W, H, g.randrange(4), a, n, planes=planes, entry=k // 4 % 2)[0] == 5
 
     def names(self, count):
         g = self.g
@@ -459,18 +462,18 @@ class Maker:
             if t == 5: a, n = g.choice(((2 ** 64 - 1, 1), (2 ** 64 - 1, 2), (2 ** 64 - n, n), (1, 2 ** 64 - 1), (a, 2 ** 64 - max(a, 1)),
                                         (2 ** 63, 2 ** 63), (2 ** 64 - 1, 2 ** 64 - 1), (H, 0), (H + 1, 0)))
             if t == 6: choice = g.choice((2, 3, 128, 255))
-            assert self.strip(W, H, L, a, n, true=true, choice=choice)[0] in (1, 2, 3, 10)
+            assert self.strip(W, H, L, a, n, true=true, choice=choice, entry=k // 7 % 2)[0] in (1, 2, 3, 10)
 
     def mixed(self, count):
         g = self.g
-        self.note('several faults at once: the first in the order 1 2 10 3 4 5 6 counts')
-        for _ in range(count):
+        self.note('several faults at once: the first in the order 1 2 10 3 4 5 6 counts, and in the preview 11 after 3')
+        for k in range(count):
             W, H, L, choice = self.size(20), self.size(20), g.randrange(4), None
             a, n = self.cut(H)
             true = (W, H, a, n)
             lo, hi = r.strip_rows(H, a, n)
             P, planes, puts = (hi - lo) * W, [n * W] * 3, []
-            for t in g.sample(range(8), g.choice((2, 2, 3, 4))):
+            for t in g.sample(range(9), g.choice((2, 2, 3, 4))):
                 if t == 0: W = g.choice([0, LEAST - 1, 4097] + BIG)
                 if t == 1: H = g.choice([0, LEAST - 1, 4097] + BIG)
                 if t == 2: L = g.choice((4, 255))
@@ -479,7 +482,53 @@ class Maker:
                 if t == 5: planes[g.randrange(3)] += g.choice((1, -1))
                 if t == 6: puts = [(g.randrange(P), 4096)]
                 if t == 7: choice = g.choice((2, 255))
-            self.strip(W, H, L, a, n, puts=puts, P=P, planes=planes, true=true, choice=choice)
+                if t == 8: W = 1025
+            self.strip(W, H, L, a, n, puts=puts, P=P, planes=planes, true=true, choice=choice, entry=k % 2)
+
+    # -------------------------------------------------------- the preview's limits
+    def both_entries(self, number, preview_number, *call, **named):
+        """The same call by the full-size entry and by the preview, and what they answer. Where the numbers are the same, so are the samples."""
+        named = {'recipe': self.textured(), 'seed': self.g.randrange(M32), 'choice': self.g.choice((0, 1, UNNAMED)), 'puts': [], **named}
+        full, preview = (self.strip(*call, entry=entry, **named) for entry in (FULL_SIZE, PREVIEW))
+        assert (full[0], preview[0]) == (number, preview_number), (call, full, preview)
+        assert number != preview_number or full == preview
+
+    def preview_limits(self):
+        g = self.g
+        self.note('1023, 1024 and 1025 columns; 63, 64 and 65 rows; each call by both entries')
+        for W in (1023, 1024, 1025):
+            for H, a, n in ((LEAST, 0, 2), (9, 6, 1)):
+                self.both_entries(0, 11 if W > 1024 else 0, W, H, g.randrange(4), a, n)
+        for n in (63, 64, 65):
+            for W, H, a in ((LEAST, 66, 0), (3, n, 0), (8, 70, g.randrange(71 - n))):
+                self.both_entries(0, 11 if n > 64 else 0, W, H, g.randrange(4), a, n)
+        for H, a, n in ((64, 0, 65), (65, 1, 65), (70, 6, 65), (70, 7, 64), (70, 2 ** 64 - 1, 65), (70, 0, 2 ** 64 - 1)):
+            self.both_entries(3, 3, LEAST, H, g.randrange(4), a, n, true=(LEAST, 70, 0, 64))
+        self.note('as large as there is room for')
+        for W, H, a, n in ((1024, 64, 13, 32), (512, 78, 7, 64)):
+            assert self.strip(W, H, g.randrange(4), a, n, entry=PREVIEW)[0] == 0
+
+    def preview_damaged(self):
+        g = self.g
+        self.note('at and over the limits with one fault more, by both entries: 1, 2, 10 and 3 come before 11, and 4, 5 and 6 after it')
+        for W, H, a, n in ((1024, LEAST, 0, 1), (1025, LEAST, 0, 1), (3, 70, 3, 64), (3, 70, 3, 65)):
+            L, over, (lo, hi) = g.randrange(4), W > 1024 or n > 64, r.strip_rows(H, a, n)
+            for number, call in ((1, (4097, H, L, a, n)), (1, (W, LEAST - 1, L, a, n)), (2, (W, H, 4, a, n)), (3, (W, H, L, H - n + 1, n))):
+                self.both_entries(number, number, *call, true=(W, H, a, n))
+            self.both_entries(10, 10, W, H, L, a, n, choice=2)
+            later = [(4, {'P': (hi - lo) * W + g.choice((1, -1))}), (6, {'puts': [(g.randrange((hi - lo) * W), 4096)]})]
+            later += [(5, {'planes': [n * W + (k == c) for k in range(3)]}) for c in range(3)]
+            for number, fault in later:
+                self.both_entries(number, 11 if over else number, W, H, L, a, n, **fault)
+        self.note('both limits passed at once, nothing lent')
+        self.both_entries(4, 11, 1025, 70, g.randrange(4), 3, 65, P=0, planes=[0] * 3)
+
+    def pairs(self, count):
+        self.note('the same accepted call by both entries')
+        for k in range(count):
+            W, H = self.size(), self.size()
+            a, n = self.cut(H)
+            self.both_entries(0, 0, W, H, k % 4, a, n, recipe=self.recipe(W, H))
 
     # -------------------------------------------------------- the mosaic back
     def mosaic(self, W, H, layout, a, n, puts=(), lengths=None, true=None, bits=0):
@@ -514,7 +563,7 @@ class Maker:
         for k in range(40):
             W, H = self.size(), self.size()
             a, n = self.cut(H)
-            assert self.strip(W, H, k % 4, a, n, kind='B')[0] == 0
+            assert self.strip(W, H, k % 4, a, n, kind='B', entry=k // 4 % 2)[0] == 0
 
     def off_camera(self, count):
         g = self.g
@@ -707,6 +756,9 @@ def main():
     m.lengths(96)
     m.names(140)
     m.mixed(120)
+    m.preview_limits()
+    m.preview_damaged()
+    m.pairs(20)
     m.row_views(200)
     m.partner_views(240)
     m.fusions(600)
