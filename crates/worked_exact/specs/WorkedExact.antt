@@ -1,4 +1,4 @@
--- Values of the exact reconstruction of the frames of worked_planes/specs/WorkedPlanes. proofs/ExactTable.antt has the theorem. Made by tools/make_figures.py 38 from reference/, stage A.6, and from nothing else. Assumes nothing.
+-- Values of the exact reconstruction of the frames of worked_planes/specs/WorkedPlanes. proofs/ExactTable.antt has the theorem. Made by tools/make_figures.py 38 from reference/, stage A.7, and from nothing else. Assumes nothing.
 use mathlib.Core.List.{List, [], _∷_}
 use Rattle.bayer.specs.declared.colour.Colour.the-variants.{Red, Green, Blue}
 use Rattle.worked_exact.specs.ExactClaim.{Value, exactly, ExactClaim, givesExact}

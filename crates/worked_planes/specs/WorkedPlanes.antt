@@ -1,4 +1,4 @@
--- Frames, one of each layout and four small ones, and their planes by the whole-number rules. proofs/PlaneTable.antt has the theorem. Made by tools/make_figures.py 38 from reference/, stage A.6, and from nothing else. Assumes nothing.
+-- Frames, one of each layout and four small ones, and their planes by the whole-number rules. proofs/PlaneTable.antt has the theorem. Made by tools/make_figures.py 38 from reference/, stage A.7, and from nothing else. Assumes nothing.
 use Prim.Native.Nat.{ℕ}
 use mathlib.Core.List.{List, [], _∷_}
 use Rattle.bayer.specs.declared.frame.Frame.{Frame}
