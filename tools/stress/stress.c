@@ -2,11 +2,12 @@
  *
  *   stress [cases [seed]]    default 100000 cases, seed 1
  *
- * Each case is a strip call, a mosaic back, a test frame, a row of one, a jump, a row view and a partner view. Every buffer but a
- * view's ends at a protected page, so a touch past its end stops the program; every second case runs again with buffers that start just
+ * Each case is a strip call by the full-size entry or by the preview, a mosaic back, a test frame, a row of one, a jump, a row view and
+ * a partner view. What the preview accepts is handed to the full-size entry too, which has to leave the same. Every buffer but a view's
+ * ends at a protected page, so a touch past its end stops the program; every second case runs again with buffers that start just
  * after a protected page. What is lent to be read is mapped read-only, so a write to it stops the program too. What is written is
- * compared whole, with up to 8 KB on each side of it. All but strips are compared with their rules below, worked out in 128 bits where a
- * sum or a product could wrap. */
+ * compared whole, with up to 8 KB on each side of it. All but strip calls are compared with their rules below, worked out in 128 bits
+ * where a sum or a product could wrap. */
 #define _GNU_SOURCE
 #include <signal.h>
 #include <stdint.h>
@@ -76,13 +77,14 @@ static void same(const char *what, uint64_t got, uint64_t asked) {
 static uint64_t size(void) {
     static const uint64_t edge[] = {LEAST - 1, LEAST, LEAST + 1, 8, 9, 10, 11, 14, 15, 16, 17, 63, 64, 65, 4095, 4096};
     if (one_in(3)) return edge[below(sizeof edge / sizeof *edge)];
+    if (one_in(8)) return 1023 + below(3); /* about the preview's limit */
     if (one_in(6)) return LEAST + below(8);
     if (one_in(8)) return LEAST + below(4097 - LEAST);
     return LEAST + below(60);
 }
 static uint64_t odd_number(void) { /* any number, with those near the limits and near wrapping more often */
-    static const uint64_t edge[] = {0, 1, 2, 7, 8, 4096, 4097, 65535, 65536, 1u << 31, UINT32_MAX, (uint64_t)UINT32_MAX + 1,
-                                    (uint64_t)1 << 52, (uint64_t)1 << 63, UINT64_MAX - 7, UINT64_MAX - 1, UINT64_MAX};
+    static const uint64_t edge[] = {0, 1, 2, 7, 8, 64, 65, 1024, 1025, 4096, 4097, 65535, 65536, 1u << 31, UINT32_MAX,
+                                    (uint64_t)UINT32_MAX + 1, (uint64_t)1 << 52, (uint64_t)1 << 63, UINT64_MAX - 7, UINT64_MAX - 1, UINT64_MAX};
     if (one_in(4)) return rnd() >> below(64);
     return edge[below(sizeof edge / sizeof *edge)] + (one_in(4) ? below(9) : 0);
 }
@@ -124,26 +126,43 @@ static int after(const uint16_t *fill, const uint16_t *expected, size_t at, size
     return memcmp(fill + from, expected + from, (around_to(at, len) - from) * 2) == 0;
 }
 
-enum { NUMBERS = 11 }; /* 0 and the refusals */
+enum { NUMBERS = 12 }; /* 0 and the refusals */
 static Room piece, seen[3], plane[3];
 static uint16_t *expected[3];
-static uint64_t strips[NUMBERS], backs[NUMBERS], frames[NUMBERS], rows_made[NUMBERS], rows_seen[NUMBERS], partners[NUMBERS];
+static uint64_t strips[2][NUMBERS], backs[NUMBERS], frames[NUMBERS], rows_made[NUMBERS], rows_seen[NUMBERS], partners[NUMBERS];
 static uint64_t calls, back_calls, frame_calls;
 
-typedef struct { uint64_t W, H, layout, a, n; int smoothing; } Call; /* smoothing -1: none is named */
+typedef struct { uint64_t W, H, layout, a, n; int smoothing, preview; } Call; /* smoothing -1: none is named; preview 0: full-size */
 
+static uint64_t count(uint64_t most) { /* of rows: about the preview's limit, 1, all, or a few */
+    if (most > 64 && one_in(3)) return 63 + below(3);
+    if (one_in(3)) return 1;
+    if (one_in(3)) return most;
+    return 1 + below(most < 40 ? most : 40);
+}
+static size_t piece_samples(Call c) {
+    uint64_t lo = c.a < 7 ? 0 : c.a - 7, hi = c.a + c.n + 7 < c.H ? c.a + c.n + 7 : c.H;
+    return (size_t)((hi - lo) * c.W);
+}
 static Call whole_call(void) {
     Call c;
     c.layout = below(4);
     c.smoothing = (int)below(3) - 1;
+    c.preview = (int)below(2);
+    if (one_in(100)) { /* about as large as the preview takes */
+        c.W = 1023 + below(3);
+        c.n = 63 + below(3);
+        c.a = below(20);
+        c.H = c.a + c.n + below(20);
+        return c;
+    }
     for (;;) {
         c.W = size();
         c.H = size();
         c.a = one_in(4) ? below(20) : one_in(3) ? c.H - 1 - below(c.H < 20 ? c.H : 20) : below(c.H);
         if (c.a >= c.H) c.a = c.H - 1;
-        c.n = one_in(3) ? 1 : one_in(3) ? c.H - c.a : 1 + below(c.H - c.a < 40 ? c.H - c.a : 40);
-        uint64_t hi = c.a + c.n + 7 < c.H ? c.a + c.n + 7 : c.H, lo = c.a < 7 ? 0 : c.a - 7;
-        if ((hi - lo) * c.W <= (one_in(15) ? ROOM : 12000)) return c;
+        c.n = count(c.H - c.a);
+        if (piece_samples(c) <= (one_in(15) ? ROOM : 12000)) return c;
     }
 }
 static void damage(Call *c, uint64_t which) { /* one of the five numbers, mostly to a wrong one */
@@ -156,66 +175,103 @@ static void damage(Call *c, uint64_t which) { /* one of the five numbers, mostly
     }
 }
 
+/* the functions of the full-size entry and of the preview */
+typedef struct {
+    __typeof__(rokzimp_strip) *call;
+    __typeof__(rokzimp_strip_check) *check;
+    __typeof__(rokzimp_strip_smoothed) *smoothed;
+    __typeof__(rokzimp_strip_smoothed_check) *smoothed_check;
+} Entry;
+static const Entry entries[2] = {{rokzimp_strip, rokzimp_strip_check, rokzimp_strip_smoothed, rokzimp_strip_smoothed_check},
+                                 {rokzimp_preview, rokzimp_preview_check, rokzimp_preview_smoothed, rokzimp_preview_smoothed_check}};
+
 /* the call and the check that name the smoothing, or none */
 static uint32_t strip_call(Call c, const uint16_t *p, size_t len, uint16_t *const q[3], const size_t lens[3]) {
-    if (c.smoothing < 0)
-        return rokzimp_strip(c.W, c.H, (uint8_t)c.layout, c.a, c.n, p, len, q[0], lens[0], q[1], lens[1], q[2], lens[2]);
-    return rokzimp_strip_smoothed(c.W, c.H, (uint8_t)c.layout, (uint8_t)c.smoothing, c.a, c.n, p, len, q[0], lens[0], q[1], lens[1], q[2], lens[2]);
+    const Entry *e = &entries[c.preview];
+    if (c.smoothing < 0) return e->call(c.W, c.H, (uint8_t)c.layout, c.a, c.n, p, len, q[0], lens[0], q[1], lens[1], q[2], lens[2]);
+    return e->smoothed(c.W, c.H, (uint8_t)c.layout, (uint8_t)c.smoothing, c.a, c.n, p, len, q[0], lens[0], q[1], lens[1], q[2], lens[2]);
 }
 static uint32_t strip_check(Call c, const uint16_t *p, size_t len, const size_t lens[3]) {
-    if (c.smoothing < 0) return rokzimp_strip_check(c.W, c.H, (uint8_t)c.layout, c.a, c.n, p, len, lens[0], lens[1], lens[2]);
-    return rokzimp_strip_smoothed_check(c.W, c.H, (uint8_t)c.layout, (uint8_t)c.smoothing, c.a, c.n, p, len, lens[0], lens[1], lens[2]);
+    const Entry *e = &entries[c.preview];
+    if (c.smoothing < 0) return e->check(c.W, c.H, (uint8_t)c.layout, c.a, c.n, p, len, lens[0], lens[1], lens[2]);
+    return e->smoothed_check(c.W, c.H, (uint8_t)c.layout, (uint8_t)c.smoothing, c.a, c.n, p, len, lens[0], lens[1], lens[2]);
 }
 
-static void strip_case(int twice) {
-    static const char *const names[3] = {"the red plane", "the green plane", "the blue plane"};
-    /* a whole call first, but for a size that may be one less than the least */
-    Call call = whole_call();
-    uint64_t lo = call.a < 7 ? 0 : call.a - 7, hi = call.a + call.n + 7 < call.H ? call.a + call.n + 7 : call.H;
-    size_t len = (size_t)((hi - lo) * call.W), lens[3];
-    for (int c = 0; c < 3; c++) lens[c] = (size_t)(call.n * call.W);
-    /* then the damage */
-    int over = 0;
-    if (!one_in(3))
-        for (uint64_t k = 1 + below(2); k > 0; k--) {
-            uint64_t which = below(10);
-            if (which < 5) damage(&call, which);
-            else if (which == 9) call.smoothing = (int)(one_in(2) ? 2 : one_in(2) ? 255 : below(256));
-            else if (which == 5) len = other_length(len, call.W);
-            else if (which == 6) { int c = (int)below(3); lens[c] = other_length(lens[c], call.W); }
-            else over = 1;
-        }
-    uint64_t W = call.W, H = call.H, layout = call.layout, a = call.a, n = call.n;
-    size_t at_high = over && len ? (one_in(3) ? 0 : one_in(2) ? len - 1 : (size_t)below(len)) : 0;
-    uint64_t start = rnd();
+/* a strip call, the lengths of the piece and of the planes, and whether a reading is over range */
+typedef struct { Call call; size_t len, lens[3]; int over; } Strip;
 
-    for (int round = 0; round <= twice; round++) {
-        size_t from = place(round, len), at[3];
-        if (round == 0) {
-            readings(piece.fill + from, len);
-            if (over && len) piece.fill[from + at_high] = one_in(2) ? 4096 : (uint16_t)(4096 + below(61440));
-        } else
-            memmove(piece.fill + from, piece.fill + place(0, len), len * 2);
-        for (int c = 0; c < 3; c++) {
-            at[c] = place(round, lens[c]);
-            before(plane[c].fill, expected[c], at[c], lens[c], start + (uint64_t)c);
-        }
-        int asked = strip_general(W, H, (int)layout, call.smoothing, -1, a, n, 0, -1, 0, piece.lent + from, len, expected[0] + at[0], lens[0],
-                                  expected[1] + at[1], lens[1], expected[2] + at[2], lens[2]);
-        uint16_t *const lent[3] = {plane[0].lent + at[0], plane[1].lent + at[1], plane[2].lent + at[2]};
-        uint32_t got = strip_call(call, piece.lent + from, len, lent, lens);
-        calls++;
-        same("the number of the check", strip_check(call, piece.lent + from, len, lens), (uint64_t)asked);
-        same("the strip's number", got, (uint64_t)asked);
-        strips[got < NUMBERS ? got : 0]++;
-        for (int c = 0; c < 3; c++)
-            if (!after(plane[c].fill, expected[c], at[c], lens[c])) differs(names[c], got);
+static void damage_strip(Strip *s, uint64_t which) {
+    int c = (int)below(3);
+    if (which < 5) damage(&s->call, which);
+    else if (which == 5) s->len = other_length(s->len, s->call.W);
+    else if (which == 6) s->lens[c] = other_length(s->lens[c], s->call.W);
+    else if (which == 7) s->call.smoothing = (int)(one_in(2) ? 2 : one_in(2) ? 255 : below(256));
+    else s->over = 1;
+}
+static Strip any_strip(void) { /* a whole call, but for a size that may be one less than the least; then the damage */
+    Strip s = {.call = whole_call()};
+    s.len = piece_samples(s.call);
+    for (int c = 0; c < 3; c++) s.lens[c] = (size_t)(s.call.n * s.call.W);
+    if (!one_in(3))
+        for (uint64_t k = 1 + below(2); k > 0; k--) damage_strip(&s, below(10));
+    return s;
+}
+static const uint16_t *lend_piece(const Strip *s, int round) { /* a second round has the readings of the first */
+    size_t len = s->len, from = place(round, len);
+    if (round == 0) {
+        readings(piece.fill + from, len);
+        size_t high = one_in(3) ? 0 : one_in(2) ? len - 1 : (size_t)below(len);
+        if (s->over && len) piece.fill[from + high] = one_in(2) ? 4096 : (uint16_t)(4096 + below(61440));
+    } else
+        memmove(piece.fill + from, piece.fill + place(0, len), len * 2);
+    return piece.lent + from;
+}
+static void compare_planes(const size_t at[3], const size_t lens[3], uint32_t number) {
+    static const char *const names[3] = {"the red plane", "the green plane", "the blue plane"};
+    for (int c = 0; c < 3; c++)
+        if (!after(plane[c].fill, expected[c], at[c], lens[c])) differs(names[c], number);
+}
+
+static void strip_round(const Strip *s, int round, uint64_t start) {
+    Call c = s->call;
+    const size_t *lens = s->lens;
+    const uint16_t *p = lend_piece(s, round);
+    size_t at[3];
+    uint16_t *lent[3];
+    for (int k = 0; k < 3; k++) {
+        at[k] = place(round, lens[k]);
+        lent[k] = plane[k].lent + at[k];
+        before(plane[k].fill, expected[k], at[k], lens[k], start + (uint64_t)k);
     }
-    /* the rows of the piece, for any numbers */
-    uint64_t h = one_in(2) ? H : odd_number(), b = one_in(2) ? a : odd_number(), m = one_in(2) ? n : odd_number();
+    int asked = strip_general(c.W, c.H, (int)c.layout, c.smoothing, -1, c.a, c.n, 0, -1, c.preview, p, s->len, expected[0] + at[0], lens[0],
+                              expected[1] + at[1], lens[1], expected[2] + at[2], lens[2]);
+    uint32_t got = strip_call(c, p, s->len, lent, lens);
+    calls++;
+    same("the number of the check", strip_check(c, p, s->len, lens), (uint64_t)asked);
+    same("the strip's number", got, (uint64_t)asked);
+    strips[c.preview][got < NUMBERS ? got : 0]++;
+    compare_planes(at, lens, got);
+    if (c.preview && got == 0) { /* the full-size entry accepts it too, and leaves the same */
+        c.preview = 0;
+        for (int k = 0; k < 3; k++) memset(lent[k], 0xa5, lens[k] * 2);
+        same("the full-size entry's number", strip_call(c, p, s->len, lent, lens), 0);
+        compare_planes(at, lens, got);
+    }
+}
+
+/* the rows of the piece, for any numbers */
+static void piece_case(Call c) {
+    uint64_t h = one_in(2) ? c.H : odd_number(), b = one_in(2) ? c.a : odd_number(), m = one_in(2) ? c.n : odd_number();
     wide last = (wide)b + m + 7 < h ? (wide)b + m + 7 : h, first = b < 7 ? 0 : b - 7;
     same("the piece's start", rokzimp_piece_start(b), (uint64_t)first);
     same("the piece's rows", rokzimp_piece_rows(h, b, m), last < first ? 0 : (uint64_t)(last - first));
+}
+
+static void strip_case(int twice) {
+    Strip s = any_strip();
+    uint64_t start = rnd();
+    for (int round = 0; round <= twice; round++) strip_round(&s, round, start);
+    piece_case(s.call);
 }
 
 static int off(uint64_t n) { return n < LEAST || n > 4096; }
@@ -402,7 +458,8 @@ static void view_cases(int at_start) {
 
 static void show(const char *what, const uint64_t *counts) {
     static const char *const words[NUMBERS] = {"accepted", "off size", "unknown layout", "off the frame", "short halo", "plane misfit",
-                                               "over range", "no such row", "torn file", "not camera planes", "unknown smoothing"};
+                                               "over range", "no such row", "torn file", "not camera planes", "unknown smoothing",
+                                               "over preview size"};
     printf("%s:", what);
     for (int k = 0; k < NUMBERS; k++)
         if (counts[k]) printf("  %s %llu", words[k], (unsigned long long)counts[k]);
@@ -429,10 +486,11 @@ int main(int argc, char **argv) {
         frame_case((int)(the_case % 2));
         view_cases((int)(the_case % 2));
     }
-    printf("%llu cases, seed %llu; %llu strip calls, %llu mosaics back, %llu test frames and as many rows of such, %llu jumps, row views and partner views\n",
+    printf("%llu cases, seed %llu; %llu strips and previews, %llu mosaics back, %llu test frames and as many rows of such, %llu jumps, row views and partner views\n",
            (unsigned long long)cases, (unsigned long long)the_seed, (unsigned long long)calls, (unsigned long long)back_calls,
            (unsigned long long)frame_calls, (unsigned long long)cases);
-    show("strips", strips);
+    show("strips", strips[0]);
+    show("previews", strips[1]);
     show("mosaics back", backs);
     show("test frames", frames);
     show("test rows", rows_made);
