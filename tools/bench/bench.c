@@ -1,8 +1,8 @@
 /* Megapixels per second of one thread on a frame of 4096 rows and 4096 columns: the proved library beside strip_general of
  * reference/demosaic.c in its two builds, in whole numbers and with quotients guessed in floating point and put right (-DFPDIV); in
- * strips of 1, 16, 64 and 4096 rows of random readings, and whole for other readings and of 64 columns, each by either smoothing; the
- * mosaic back of the whole frame, a test frame, and the same by single rows, each beside a plain function below; and the memory that
- * each uses beside the mosaic and the planes.
+ * strips of 1, 16, 64 and 4096 rows of random readings, whole for other readings and of 64 columns, and of 1024 columns in strips of 16
+ * and 64 rows by the full-size entry and by the preview, each by either smoothing; the mosaic back of the whole frame, a test frame, and
+ * the same by single rows, each beside a plain function below; and the memory that each uses beside the mosaic and the planes.
  *
  *   bench [seconds]    time spent at the least on each figure (default 2)
  *
@@ -60,19 +60,22 @@ static void fill(int kind) {
         }
 }
 
-/* the whole frame of so many columns, in strips of so many rows */
-static void frame(int who, size_t W, size_t rows, int smoothing) {
-    uint16_t **p = planes[who];
+/* one strip of the frame of so many columns, by the preview or by the full-size entry */
+static void strip(int who, int preview, size_t W, size_t a, size_t n, int smoothing) {
+    __typeof__(rokzimp_strip_smoothed) *library = preview ? rokzimp_preview_smoothed : rokzimp_strip_smoothed;
     StripGeneral *general = who == WHOLE ? strip_general_whole : strip_general_fp;
-    for (size_t a = 0; a < SIZE; a += rows) {
-        size_t n = a + rows <= SIZE ? rows : SIZE - a, len = n * W, at = a * W;
-        const uint16_t *piece = mosaic + rokzimp_piece_start(a) * W;
-        size_t piece_len = rokzimp_piece_rows(SIZE, a, n) * W;
-        uint32_t r = who == LIBRARY
-                         ? rokzimp_strip_smoothed(W, SIZE, 0, (uint8_t)smoothing, a, n, piece, piece_len, p[0] + at, len, p[1] + at, len, p[2] + at, len)
-                         : (uint32_t)general(W, SIZE, 0, smoothing, -1, a, n, 0, -1, 0, piece, piece_len, p[0] + at, len, p[1] + at, len, p[2] + at, len);
-        if (r) { printf("refused %u\n", r); exit(1); }
-    }
+    const uint16_t *piece = mosaic + rokzimp_piece_start(a) * W;
+    size_t piece_len = rokzimp_piece_rows(SIZE, a, n) * W, len = n * W;
+    uint16_t *red = planes[who][0] + a * W, *green = planes[who][1] + a * W, *blue = planes[who][2] + a * W;
+    uint32_t r = who == LIBRARY
+                     ? library(W, SIZE, 0, (uint8_t)smoothing, a, n, piece, piece_len, red, len, green, len, blue, len)
+                     : (uint32_t)general(W, SIZE, 0, smoothing, -1, a, n, 0, -1, preview, piece, piece_len, red, len, green, len, blue, len);
+    if (r) { printf("refused %u\n", r); exit(1); }
+}
+
+/* the whole frame, in strips of so many rows */
+static void frame(int who, int preview, size_t W, size_t rows, int smoothing) {
+    for (size_t a = 0; a < SIZE; a += rows) strip(who, preview, W, a, a + rows <= SIZE ? rows : SIZE - a, smoothing);
 }
 
 /* The mosaic back, written plainly: it too tests all before it writes. In 16 bits no multiple of 16 is above 65520. With noipa it is
@@ -170,8 +173,12 @@ static int beside(const char *what, void (*run)(int plain), double seconds) {
 }
 
 /* the stack that one call takes: run on a stack of a known pattern, and see how deep it was overwritten */
-static void *one_call(void *who) {
-    frame(*(int *)who, SIZE, SIZE, 1);
+static void *one_strip(void *who) {
+    strip(*(int *)who, 0, SIZE, 0, SIZE, 1);
+    return 0;
+}
+static void *one_preview(void *who) {
+    strip(*(int *)who, 1, 1024, 0, 64, 1);
     return 0;
 }
 static void *one_back(void *plain) {
@@ -196,35 +203,45 @@ static size_t stack_used(void *(*call)(void *), int who) {
     return size - k;
 }
 
+typedef struct { int contents; size_t columns, rows; int preview; } Figure;
+
+/* the best time of each; whether some planes differ */
+static int timed(Figure f, int smoothing, double seconds, double best[EACH]) {
+    double spent = 0;
+    for (int turn = 0; turn < 2 || spent < EACH * seconds; turn++)
+        for (int who = 0; who < EACH; who++) {
+            double t = now();
+            frame(who, f.preview, f.columns, f.rows, smoothing);
+            t = now() - t;
+            spent += t;
+            if (turn == 0 || t < best[who]) best[who] = t;
+        }
+    int differ = 0;
+    for (int c = 0; c < 3; c++)
+        for (int who = WHOLE; who < EACH; who++) differ |= memcmp(planes[LIBRARY][c], planes[who][c], f.columns * SIZE * 2) != 0;
+    return differ;
+}
+
 /* The table of strips, each figure by either smoothing; whether some planes differ. The last figure leaves the planes of a whole frame. */
 static int strips(double seconds) {
-    struct { int contents; size_t columns, rows; } const figures[] = {{0, 64, 4096}, {0, SIZE, 1}, {0, SIZE, 16}, {0, SIZE, 64},
-                                                                      {0, SIZE, 4096}, {1, SIZE, 4096}, {2, SIZE, 4096}};
+    static const Figure figures[] = {{0, 64, 4096, 0}, {0, 1024, 16, 0}, {0, 1024, 16, 1}, {0, 1024, 64, 0}, {0, 1024, 64, 1},
+                                     {0, SIZE, 1, 0}, {0, SIZE, 16, 0}, {0, SIZE, 64, 0},
+                                     {0, SIZE, 4096, 0}, {1, SIZE, 4096, 0}, {2, SIZE, 4096, 0}};
     enum { FIGURES = 2 * sizeof figures / sizeof *figures };
     int bad = 0;
     printf("4096 rows, one thread; megapixels per second; ratios of the library to each build of demosaic.c\n");
-    printf("%-10s %7s %13s %9s", "readings", "columns", "rows in strip", "smoothing");
+    printf("%-10s %7s %13s %-7s %9s", "readings", "columns", "rows in strip", "entry", "smoothing");
     for (int who = 0; who < EACH; who++) printf(" %12s", names[who]);
     printf("    ratios\n");
     for (int each = 0; each < FIGURES; each++) {
-        int k = each / 2, smoothing = each % 2;
-        size_t pixels = figures[k].columns * SIZE;
-        fill(figures[k].contents);
-        double best[EACH] = {1e9, 1e9, 1e9}, spent = 0;
-        for (int turn = 0; turn < 2 || spent < EACH * seconds; turn++)
-            for (int who = 0; who < EACH; who++) {
-                double t = now();
-                frame(who, figures[k].columns, figures[k].rows, smoothing);
-                t = now() - t;
-                spent += t;
-                if (t < best[who]) best[who] = t;
-            }
-        int differ = 0;
-        for (int c = 0; c < 3; c++)
-            for (int who = WHOLE; who < EACH; who++) differ |= memcmp(planes[LIBRARY][c], planes[who][c], pixels * 2) != 0;
+        Figure f = figures[each / 2];
+        int smoothing = each % 2;
+        double best[EACH];
+        fill(f.contents);
+        int differ = timed(f, smoothing, seconds, best);
         bad |= differ;
-        printf("%-10s %7zu %13zu %9d", contents[figures[k].contents], figures[k].columns, figures[k].rows, smoothing);
-        for (int who = 0; who < EACH; who++) printf(" %12.1f", (double)pixels / best[who] * 1e-6);
+        printf("%-10s %7zu %13zu %-7s %9d", contents[f.contents], f.columns, f.rows, f.preview ? "preview" : "strip", smoothing);
+        for (int who = 0; who < EACH; who++) printf(" %12.1f", (double)(f.columns * SIZE) / best[who] * 1e-6);
         printf(" %6.2f %6.2f%s\n", best[WHOLE] / best[LIBRARY], best[FP] / best[LIBRARY], differ ? "  PLANES DIFFER" : "");
         fflush(stdout);
     }
@@ -253,11 +270,13 @@ int main(int argc, char **argv) {
     bad |= beside("a test frame", test_frame, seconds);
     bad |= beside("a test frame by single rows", test_rows, seconds);
     printf("memory beside the mosaic and the planes, the thread's own few thousand bytes of stack included:\n");
-    printf("  %-10s %8zu bytes of stack, %zu for the mosaic back, no heap\n", names[LIBRARY], stack_used(one_call, LIBRARY),
-           stack_used(one_back, 0));
+    /* the mosaic back takes the strip's planes, so the preview comes after it */
+    size_t in_strip = stack_used(one_strip, LIBRARY), in_back = stack_used(one_back, 0), in_preview = stack_used(one_preview, LIBRARY);
+    printf("  %-10s %8zu bytes of stack, %zu in a preview, %zu for the mosaic back, no heap\n", names[LIBRARY], in_strip, in_preview,
+           in_back);
     for (int who = WHOLE; who < EACH; who++) {
         heap_most = 0;
-        size_t stack = stack_used(one_call, who);
+        size_t stack = stack_used(one_strip, who);
         printf("  %-10s %8zu bytes of stack, %zu of heap\n", names[who], stack, heap_most);
     }
     struct rusage u;
