@@ -216,13 +216,13 @@ def _in_threads(work, items, threads):
         each.result()
 
 
-_PREVIEW_ROWS = 64  # of a strip, at the most
+_PREVIEW_ROWS = 64  # of a strip by the preview, at the most
 
 
 def _whole_number(frame, rows, mosaic, planes, smoothing, preview):
     """The refusal of a frame that is filled in strips of so many rows, or 0: that of one strip of all rows, and by the preview 11."""
     _, check, named = _calls(smoothing, preview)
-    # lent no piece, the first strip is refused with 4 if it passes what is tested before 4, by the preview also 11
+    # a strip that is lent no piece is refused with 4, unless by a test before 4: in the preview 11 is one of them
     number = check(*frame, *named, 0, min(rows, frame[1]), mosaic.address, 0, 0, 0, 0)
     if number != 4:
         return number
