@@ -2,7 +2,7 @@
  * planes, and the mosaic back from them; and test frames that anyone can make from a seed.
  *
  * Each function below is proved to return, to answer and to write what is said of it, for every value of its arguments
- * (crates/capi/src/lib.rt has the contracts). What is said of stack, heap and locks was measured and seen in the code, not proved.
+ * (crates/capi/src has the contracts). What is said of stack, heap and locks was measured and seen in the code, not proved.
  * The proof relies on the caller for this:
  *
  *   - A pointer and the count after it are one run of that many 16-bit samples, at an even address, which the call may read and, where the pointer
@@ -13,7 +13,7 @@
  *
  * The library keeps no memory between calls, takes no lock and no heap, and prints nothing. Calls in several threads are
  * independent; strips and previews of one frame may run at the same time, each into its own rows. A strip takes about 810 KB of
- * stack, whatever the size of the frame: a thread that calls it needs a stack of 1 MB at the least. A preview takes about 205 KB: a
+ * stack, whatever the size of the frame: a thread that calls it needs a stack of 1 MB at the least. A preview takes about 209 KB: a
  * thread that calls no strip needs 256 KB at the least. The others take next to none.
  *
  * A frame has `width` columns and `height` rows, each 2 to 4096. Rows and columns count from 0. Readings are 0 to 4095. The

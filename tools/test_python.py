@@ -399,6 +399,16 @@ class Test(unittest.TestCase):
                 first, preview = first + rows, not preview
             self.assertEqual(tuple(lent), whole_frame(width, height, layout, mosaic, strip_height=height, smoothing=smoothing))
 
+    def test_preview_in_a_small_stack(self):
+        """The header's 256 KB are enough, in which a strip would not run."""
+        script = ("import sys, threading; sys.path.insert(0, 'python'); import rokzimp; from array import array\n"
+                  "lent = [array('H', [100] * 65536) for _ in range(4)]\n"
+                  "threading.stack_size(2 ** 18)\n"
+                  "thread = threading.Thread(target=rokzimp.strip, args=(1024, 64, 0, 0, 64, *lent), kwargs={'preview': True})\n"
+                  "thread.start(); thread.join(); print({*lent[1]})")
+        ran = subprocess.run([sys.executable, "-c", script], capture_output=True, cwd=ROOT)
+        self.assertEqual((ran.returncode, ran.stdout), (0, b"{1600}\n"), ran.stderr)
+
     def test_preview_example(self):
         self.assertEqual(whole_frame(8, 8, 0, test_frame(0, 8, 8), preview=True)[1][0], 7682)
         with self.assertRaises(Refused) as caught:
@@ -786,19 +796,21 @@ class Test(unittest.TestCase):
             self.assertEqual(self.run_seed(*words), (2, b"", None))
 
     def example(self):
-        """What the README's C example prints, by reference.py: a test frame, one strip of it with no smoothing named and evenly smoothed,
-        the strip's first reading, which comes back, and a frame of 2 by 2."""
+        """What the README's C example prints, by reference.py: a test frame, one strip of it with no smoothing named, evenly smoothed and by
+        the preview, a width that the preview refuses, the strip's first reading, which comes back, and a frame of 2 by 2."""
         mosaic, planes = [0] * 320, [[0] * 32 for _ in range(3)]
         first, last = reference.strip_rows(20, 9, 2)
         self.assertEqual(reference.walk(RULES, 0, 16, 20, mosaic), 0)
         filled = []
-        for smoothing in (None, 0):
-            self.assertEqual(reference.strip_call(RULES, reference.Frame(16, 20, 0, smoothing), 9, 2, mosaic[16 * first:16 * last], planes), 0)
+        for smoothing, preview in ((None, False), (0, False), (None, True)):
+            frame, piece = reference.Frame(16, 20, 0, smoothing), mosaic[16 * first:16 * last]
+            self.assertEqual(reference.strip_call(RULES, frame, 9, 2, piece, planes, preview=preview), 0)
             filled.append("0 %d %d %d" % tuple(plane[0] for plane in planes))
         small, frame = [0] * 4, reference.Frame(2, 2, 0)
         self.assertEqual(reference.walk(RULES, 0, 2, 2, small), 0)
         smallest = [plane[0] for plane in reference.whole(RULES, frame, small)]
-        return ["0 %d" % mosaic[0], *filled, "0 %d %d" % (mosaic[144], mosaic[144]), "0 %d %d %d" % tuple(smallest)]
+        over = reference.strip_number(RULES, reference.Frame(1025, 20, 0), 9, 2, [], [[]] * 3, preview=True)
+        return ["0 %d" % mosaic[0], *filled, "%d" % over, "0 %d %d" % (mosaic[144], mosaic[144]), "0 %d %d %d" % tuple(smallest)]
 
     def test_readme(self):
         """The README's C, Python, picture and frame file examples do what it says, and its printed lines are the committed ones."""
@@ -822,7 +834,7 @@ class Test(unittest.TestCase):
             subprocess.run(["gcc", "-I", os.path.join(ROOT, "include"), "-o", binary, source, library], check=True)
             self.assertEqual(subprocess.run([binary], capture_output=True, check=True).stdout.decode().splitlines(), printed)
             ran = subprocess.run([sys.executable, "-c", script], capture_output=True, check=True, cwd=ROOT)
-            self.assertEqual(ran.stdout, b"966 True\n7682 9032\nTrue\n[35976, 18256, 53696, 35976]\n7 no such row\n")
+            self.assertEqual(ran.stdout, b"966 True\n7682 9032\nTrue\nTrue\n[35976, 18256, 53696, 35976]\n7 no such row\n")
             frame = os.path.join(ROOT, "crates", "planes", "stdin")
             subprocess.run([os.path.join(ROOT, "tools", "frame_to_png.py"), frame, out], check=True)
             with open(out + ".red", "rb") as file:
