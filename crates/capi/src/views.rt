@@ -98,7 +98,8 @@ pub extern "C" fn rokzimp_partner_view_length<'a>(
     layout: u8,
     row: usize,
 ) -> usize
-    ensures { λ r. ⌜ r ≡ length (shown (partnerViewNumber (length (now (red .entry))) (length (now (blue .entry))) (frame width height layout) row) (rowOf width row (planeOf (partner layout row) (now (red .entry)) (now (blue .entry))))) ⌝ }
+    ensures { λ r. ⌜ r ≡ length (shown (partnerViewNumber (length (now (red .entry))) (length (now (blue .entry))) (frame width height layout) row)
+        (rowOf width row (planeOf (partner layout row) (now (red .entry)) (now (blue .entry))))) ⌝ }
 {
     partner_view(red, blue, Frame::new(width, height, layout), row).len()
 }

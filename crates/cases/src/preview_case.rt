@@ -5,7 +5,7 @@ use capi::previews::rokzimp_preview_check;
 use capi::previews::rokzimp_preview_smoothed;
 use capi::previews::rokzimp_preview_smoothed_check;
 
-// The call of rows a to a + n - 1 by the preview, as C calls it; for strip_case, where the same is said of strips.
+// The call of rows a to a + n - 1 by the preview, as C calls it; strip_case says which arguments are which.
 pub fn call(
     f: &Fields,
     a: usize,

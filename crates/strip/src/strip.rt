@@ -17,7 +17,9 @@ pub fn strip(
     green: &mut [u16],
     blue: &mut [u16],
 ) -> u32
-    ensures { λ r. ⌜ Promise (asked FullSize frame a n (now (piece .entry))) (threePlanes (now (red .entry)) (now (green .entry)) (now (blue .entry))) r (threePlanes (now (red .exit)) (now (green .exit)) (now (blue .exit))) ⌝ }
+    ensures { λ r. ⌜ Promise (asked FullSize frame a n (now (piece .entry)))
+        (threePlanes (now (red .entry)) (now (green .entry)) (now (blue .entry))) r
+        (threePlanes (now (red .exit)) (now (green .exit)) (now (blue .exit))) ⌝ }
 {
     let number = strip_check(
         Entry::FullSize,
