@@ -221,11 +221,12 @@ _PREVIEW_ROWS = 64  # of a strip by the preview, at the most
 
 def _whole_number(frame, rows, mosaic, planes, smoothing, preview):
     """The refusal of a frame that is filled in strips of so many rows, or 0: that of one strip of all rows, and by the preview 11."""
-    _, check, named = _calls(smoothing, preview)
-    # a strip that is lent no piece is refused with 4, unless by a test before 4: in the preview 11 is one of them
-    number = check(*frame, *named, 0, min(rows, frame[1]), mosaic.address, 0, 0, 0, 0)
-    if number != 4:
-        return number
+    if preview:
+        _, check, named = _calls(smoothing, True)
+        # a strip that is lent no piece is refused with 4, unless by a test before 4: 11 is one of them
+        number = check(*frame, *named, 0, min(rows, frame[1]), mosaic.address, 0, 0, 0, 0)
+        if number != 4:
+            return number
     _, check, named = _calls(smoothing, False)
     return check(*frame, *named, 0, frame[1], mosaic.address, mosaic.count, *(plane.count for plane in planes))
 

@@ -9,8 +9,8 @@ A line is a letter and then whole numbers, single spaces between them; a '#' lin
 S W H layout  entry choice method  a n  P R G B  width seed base down across oddrow oddcol checker from step kind amount shape at value at value first
   nb given advance {first count method smoothing}*given
     A strip call. P, R, G, B are the lengths of the piece and of the planes that are lent; from width to first it is the recipe of their contents.
-    entry is 0 for the full-size entry, rokzimp_strip.., and 1 for the preview, rokzimp_preview.. choice is the smoothing: up to 255 it is named, by
-    rokzimp_strip_smoothed or rokzimp_preview_smoothed and its check; 256: none is, by rokzimp_strip or rokzimp_preview and its check.
+    entry is 0 for the full-size entry (rokzimp_strip and so on) and 1 for the preview (rokzimp_preview and so on). choice is the smoothing: up to
+    255 it is named, by rokzimp_strip_smoothed or rokzimp_preview_smoothed and its check; 256: none is, by rokzimp_strip or rokzimp_preview and its check.
     method and the bands have their places for requests of document 02 that have not landed. A case names none of them, which is 256 and at the
     end 255 0 0, and the program does not read them. Where a table is lent it will have nb bands: band t is number t % given of those given, 6 at
     the most, with advance (t / given) added to its first row.

@@ -409,12 +409,6 @@ class Test(unittest.TestCase):
         ran = subprocess.run([sys.executable, "-c", script], capture_output=True, cwd=ROOT)
         self.assertEqual((ran.returncode, ran.stdout), (0, b"{1600}\n"), ran.stderr)
 
-    def test_preview_example(self):
-        self.assertEqual(whole_frame(8, 8, 0, test_frame(0, 8, 8), preview=True)[1][0], 7682)
-        with self.assertRaises(Refused) as caught:
-            whole_frame(1025, 8, 0, test_frame(0, 1025, 8), preview=True)
-        self.assertEqual((caught.exception.number, caught.exception.word), (11, "over preview size"))
-
     # the mosaic back
 
     def test_there_and_back(self):

@@ -36,8 +36,8 @@ def number_of(call, *arguments):
 
 def strip(case):
     entry, width, height, layout, choice, method, first, rows, bands = case.ns(9)
-    if (method, bands) != (0, -1):
-        sys.exit("a case names a method or bands, which the module does not offer")
+    if entry not in (0, 1) or (method, bands) != (0, -1):
+        sys.exit("a case names an entry, a method or bands that the module does not offer")
     piece, *planes = [samples(case.l()) for _ in range(4)]
     lent = piece[:]
     number = number_of(rokzimp.strip, width, height, layout, first, rows, lent, *planes, None if choice < 0 else choice, entry == 1)

@@ -230,7 +230,7 @@ static int strips(double seconds) {
     enum { FIGURES = 2 * sizeof figures / sizeof *figures };
     int bad = 0;
     printf("4096 rows, one thread; megapixels per second; ratios of the library to each build of demosaic.c\n");
-    printf("%-10s %7s %13s %-7s %9s", "readings", "columns", "rows in strip", "entry", "smoothing");
+    printf("%-10s %7s %13s %-9s %9s", "readings", "columns", "rows in strip", "entry", "smoothing");
     for (int who = 0; who < EACH; who++) printf(" %12s", names[who]);
     printf("    ratios\n");
     for (int each = 0; each < FIGURES; each++) {
@@ -240,7 +240,7 @@ static int strips(double seconds) {
         fill(f.contents);
         int differ = timed(f, smoothing, seconds, best);
         bad |= differ;
-        printf("%-10s %7zu %13zu %-7s %9d", contents[f.contents], f.columns, f.rows, f.preview ? "preview" : "strip", smoothing);
+        printf("%-10s %7zu %13zu %-9s %9d", contents[f.contents], f.columns, f.rows, f.preview ? "preview" : "full-size", smoothing);
         for (int who = 0; who < EACH; who++) printf(" %12.1f", (double)(f.columns * SIZE) / best[who] * 1e-6);
         printf(" %6.2f %6.2f%s\n", best[WHOLE] / best[LIBRARY], best[FP] / best[LIBRARY], differ ? "  PLANES DIFFER" : "");
         fflush(stdout);

@@ -208,7 +208,8 @@ static void damage_strip(Strip *s, uint64_t which) {
     else if (which == 7) s->call.smoothing = (int)(one_in(2) ? 2 : one_in(2) ? 255 : below(256));
     else s->over = 1;
 }
-static Strip any_strip(void) { /* a whole call, but for a size that may be one less than the least; then the damage */
+/* a whole call, but for a size that may be one less than the least, or more than the preview takes; then the damage */
+static Strip any_strip(void) {
     Strip s = {.call = whole_call()};
     s.len = piece_samples(s.call);
     for (int c = 0; c < 3; c++) s.lens[c] = (size_t)(s.call.n * s.call.W);

@@ -11,6 +11,6 @@ use Rattle.plane_text.specs.Text.{lines, printed}
 unfoldable pub frameText : (number : ℕ) → Frame → (readings : List ℕ) → List ℕ
 frameText number f readings = printed number (lines (framePlane f readings))
 
--- the number of a strip call over the whole frame that is lent all its readings: 1, 2; 10; 6
+-- the number of a strip call by the full-size entry over the whole frame that is lent all its readings: 1, 2; 10; 6
 abbrev pub wholeNumber : Frame → (readings : List ℕ) → ℕ
 wholeNumber f readings = firstOf (frameCases f ++ (smoothingCases (f .smoothing) ++ rangeCases readings))

@@ -1,4 +1,4 @@
--- DEMAND 3: after any list of strip calls over one frame, each of which keeps the contract, every covered row is within the printed error, and every other row is as before.
+-- DEMAND 3: after any list of strip calls over one frame, by either entry or by both, each of which keeps the contract, every covered row is within the printed error, and every other row is as before.
 -- And what users cite beside it: what holds of calls by several smoothings, no seams, and no trace of what a plane held before. Assumes nothing.
 use mathlib.Core.Path.{_≡_, refl, sym, _∙_, ap, ap₂, subst}
 use mathlib.Core.Logic.{inl, inr}
@@ -192,7 +192,7 @@ module _ (f : Frame) (readings : List ℕ) where
   pub cited : {l : List StripCall} {p q : Planes} → Demanded f readings l p q → Cited f readings l q
   cited d = record { red = d .near Red; green = d .near Green; blue = d .near Blue }
 
-  -- NO SEAMS: two lists of calls of one smoothing, however they cut the frame and whatever the planes held before, leave the same samples in every row that both cover
+  -- NO SEAMS: two lists of calls of one smoothing, by whichever entries, however they cut the frame and whatever the planes held before, leave the same samples in every row that both cover
   pub no-seams : (l l′ : List StripCall) (p p′ q q′ : Planes) → ((k : Colour) → length (p k) ≡ f .width * f .height) → ((k : Colour) → length (p′ k) ≡ f .width * f .height)
       → CalledAll (OfFrame f readings) l p q → CalledAll (OfFrame f readings) l′ p′ q′ → (k : Colour) (i j : ℕ) → CoveredBy l i → CoveredBy l′ i → j < f .width → getD (q k) (i * f .width + j) 0 ≡ getD (q′ k) (i * f .width + j) 0
   no-seams l l′ p p′ q q′ e e′ h h′ k i j v v′ hj = covered l p q e h k i j v hj ∙ sym (covered l′ p′ q′ e′ h′ k i j v′ hj)

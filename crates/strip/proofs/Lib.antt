@@ -1,5 +1,5 @@
 pub mod StripLaws
-pub mod PreviewLaws
 pub mod Demand2
+pub mod PreviewLaws
 pub mod WholeFrame
 pub mod Demand3

@@ -2,7 +2,7 @@
 use Prim.Native.Nat.{ℕ, _≤_}
 use mathlib.Core.Path.{_≡_, refl, sym, _∙_}
 use mathlib.Core.Bool.{false}
-use mathlib.Core.List.{List}
+use mathlib.Core.List.{List, _++_}
 use native.Mathlib.Omega.{arith}
 use borrow.Author.Tests.{ltb-false, le-ltb}
 use lib.Dec.{ltb}
@@ -11,10 +11,11 @@ use Rattle.bayer.specs.declared.colour.Colour.{Colour}
 use Rattle.bayer.specs.declared.frame.Frame.{Frame}
 use Rattle.bayer.specs.Planes.{Planes}
 use Rattle.bayer.specs.Refusal.{firstOf}
+use Rattle.bayer.specs.Condition.{frameCases, smoothingCases, rowsCases, rangeCases}
 use Rattle.bayer.proofs.RefusalLaws.{never}
 use Rattle.strip.specs.declared.entry.Entry.{Entry}
 use Rattle.strip.specs.declared.entry.Entry.the-variants.{FullSize, Preview}
-use Rattle.strip.specs.Strip.{asked, overPreview, stripNumber, Promise}
+use Rattle.strip.specs.Strip.{asked, overPreview, lengthCases, stripNumber, Promise}
 use Rattle.strip.proofs.StripLaws.{fits}
 use Rattle.strip.proofs.Demand2.{accepted-plane}
 
@@ -26,13 +27,18 @@ module _ (f : Frame) (a n : ℕ) (piece : List ℕ) (red green blue : ℕ) where
   abbrev number : Entry → ℕ
   number e = stripNumber (asked e f a n piece) red green blue
 
-  -- the full-size entry never answers 11
+  -- the full-size entry's number is by the conditions that there were before the preview
+  pub full-size-number : number FullSize ≡ firstOf (frameCases f ++ (smoothingCases (f .smoothing) ++ (rowsCases f a n ++ (lengthCases f a n piece red green blue ++ rangeCases piece))))
+  unfolding stripNumber firstOf
+  full-size-number = refl
+
+  -- and so never 11
   pub full-size-never : number FullSize ≡ 11 → ⊥
   unfolding stripNumber
   full-size-never =
       never 11 (omega arith) _ (
-        λ e. absurd (omega arith),
-        (λ e. absurd (omega arith), (λ e. absurd (omega arith), (λ e. absurd (omega arith), (λ e. refl, (λ e. absurd (omega arith), (λ e. absurd (omega arith), (λ e. absurd (omega arith), tt))))))),
+        λ z. absurd (omega arith),
+        (λ z. absurd (omega arith), (λ z. absurd (omega arith), (λ z. absurd (omega arith), (λ z. refl, (λ z. absurd (omega arith), (λ z. absurd (omega arith), (λ z. absurd (omega arith), tt))))))),
       )
 
   same-unless-over : overPreview Preview (f .width) n ≡ false → number Preview ≡ number FullSize
@@ -46,7 +52,7 @@ module _ (f : Frame) (a n : ℕ) (piece : List ℕ) (red green blue : ℕ) where
   -- what the preview accepts is within its limits, and the full-size entry accepts it
   pub preview-accepts : number Preview ≡ 0 → (f .width ≤ 1024) × (n ≤ 64) × (number FullSize ≡ 0)
   preview-accepts e =
-      let h = fits (asked Preview f a n piece) red green blue e .shown in
+      let h = fits (asked Preview f a n piece) red green blue e .within-preview in
       let l = within (f .width) n h in
       (l .0, l .1, sym (same-unless-over h) ∙ e)
 

@@ -1,4 +1,4 @@
--- What an accepted strip call is: it fits, its piece has all that its rows are worked out from, and what it shows of the frame's rows. Assumes nothing.
+-- What an accepted strip call is: it fits, its piece has all that its rows are worked out from, and what it shows of the frame's rows; and how a call keeps the contract. Assumes nothing.
 use mathlib.Core.Path.{_≡_, sym, subst, ap}
 use mathlib.Core.Bool.{false}
 use mathlib.Core.List.{List}
@@ -30,7 +30,7 @@ pub record Fits (c : Asked) (red green blue : ℕ) : Type 0 where
   pub frame : FrameFits (c .frame)
   pub some : 0 < c .count
   pub rows : c .first + c .count ≤ c .frame .height
-  pub shown : overPreview (c .entry) (c .frame .width) (c .count) ≡ false
+  pub within-preview : overPreview (c .entry) (c .frame .width) (c .count) ≡ false
   pub long : length (c .piece) ≡ pieceRows (c .frame .height) (c .first) (c .count) * c .frame .width
   pub planes : Sized (c .frame) (c .count) red green blue
   pub range : AllAtMost 4095 (c .piece)
@@ -50,7 +50,7 @@ fits c red green blue e =
       frame = frame-fits (c .frame) (o .0);
       some = rows .0;
       rows = rows .1;
-      shown = off (entryCases (c .entry) (c .frame .width) (c .count)) (l .0) .0;
+      within-preview = off (entryCases (c .entry) (c .frame .width) (c .count)) (l .0) .0;
       long = same-number _ _ (lengths .0);
       planes = record { red-is = planes .0; green-is = planes .1; blue-is = planes .2 };
       range = readings-fit (c .piece) (q .1);

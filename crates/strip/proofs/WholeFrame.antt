@@ -1,4 +1,4 @@
--- A strip call over a whole frame: tests 3, 4 and 5 are passed, and it delivers the frame's planes. Assumes nothing.
+-- A strip call over a whole frame: by the full-size entry tests 3, 4 and 5 are passed, and by either what is accepted delivers the frame's planes. Assumes nothing.
 use Prim.Native.Nat.{ℕ, _*_}
 use mathlib.Core.Path.{_≡_, ap, _∙_}
 use mathlib.Core.Bool.{false, not}
@@ -51,4 +51,4 @@ module _ (f : Frame) (readings : List ℕ) (long : length readings ≡ f .width 
       ∙ skip named (lengthCases f 0 H readings red green blue) (rangeCases readings) (λ e. on (lengthCases f 0 H readings red green blue) (piece, (planes, tt)))
 
 pub whole-plane : {e : Entry} (f : Frame) (readings : List ℕ) {lent after : Planes} {answer : ℕ} → Promise (asked e f 0 (f .height) readings) lent answer after → answer ≡ 0 → (k : Colour) → after k ≡ framePlane f readings k
-whole-plane f readings p e k = accepted-plane p e k
+whole-plane f readings p z k = accepted-plane p z k

@@ -16,7 +16,7 @@ use Rattle.bayer.specs.Planes.{Planes}
 use Rattle.demosaic.specs.Exact.{exactSample, printedError}
 use Rattle.strip.specs.Strip.{Asked, stripNumber, Promise}
 
--- a call: what it asks for, and the part of each plane that it is lent
+-- a call: what it asks for, by which entry, and the part of each plane that it is lent
 pub record StripCall : Type 0 where
   pub asked : Asked
   pub from : Colour → ℕ
@@ -25,6 +25,7 @@ pub record StripCall : Type 0 where
 abbrev pub numberOf : StripCall → ℕ
 numberOf c = stripNumber (c .asked) (c .size Red) (c .size Green) (c .size Blue)
 
+-- no refusal of the call's own entry holds
 abbrev pub Accepted : StripCall → Type 0
 Accepted c = numberOf c ≡ 0
 

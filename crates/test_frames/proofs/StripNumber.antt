@@ -27,6 +27,6 @@ module _ (f : Frame) (seed a n : ℕ) where
   unfolding stripNumber
   never-over-range e red green blue =
       never 6 (omega arith) _ (
-        λ e. absurd (omega arith),
-        (λ e. absurd (omega arith), (λ e. absurd (omega arith), (λ e. absurd (omega arith), (λ e. absurd (omega arith), (λ e. absurd (omega arith), (λ e. absurd (omega arith), (λ e. in-range, tt))))))),
+        λ z. absurd (omega arith),
+        (λ z. absurd (omega arith), (λ z. absurd (omega arith), (λ z. absurd (omega arith), (λ z. absurd (omega arith), (λ z. absurd (omega arith), (λ z. absurd (omega arith), (λ z. in-range, tt))))))),
       )
