@@ -6,7 +6,7 @@ ghost use Rattle.strip_rows.specs.StripRows.{Readable, Sized, Filled};
 use crate::fill::fill_planes;
 use bayer::frame::Frame;
 
-// In room for 4096 columns.
+// In room for 4096 columns, as many as a frame has at the most.
 pub fn fill_wide(
     frame: Frame,
     a: usize,
@@ -44,7 +44,7 @@ pub fn fill_wide(
     );
 }
 
-// In room for 1024 columns.
+// In room for 1024 columns, as many as the preview takes.
 pub fn fill_narrow(
     frame: Frame,
     a: usize,
