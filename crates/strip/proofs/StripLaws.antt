@@ -92,10 +92,10 @@ module _ (c : Asked) {red green blue : ℕ} (w : Fits c red green blue) where
 pub keeps : (c : Asked) (lent : Planes) {answer : ℕ} → answer ≡ stripNumber c (length (lent Red)) (length (lent Green)) (length (lent Blue)) → (answer ≡ 0 → ⊥) → Promise c lent answer lent
 keeps c lent e h = record { number = e; red = sym (refused-holds _ _ _ h); green = sym (refused-holds _ _ _ h); blue = sym (refused-holds _ _ _ h) }
 
-pub fills : (c : Asked) (lent after : Planes) → 0 ≡ stripNumber c (length (lent Red)) (length (lent Green)) (length (lent Blue))
-    → Filled (c .frame) (c .first) (c .count) (c .piece) (after Red) (after Green) (after Blue) → Promise c lent 0 after
+pub fills : (c : Asked) (lent after : Planes) {answer : ℕ} → answer ≡ 0 → 0 ≡ stripNumber c (length (lent Red)) (length (lent Green)) (length (lent Blue))
+    → Filled (c .frame) (c .first) (c .count) (c .piece) (after Red) (after Green) (after Blue) → Promise c lent answer after
 unfolding heldAfter
-fills c lent after e h = record { number = e; red = h .red-is; green = h .green-is; blue = h .blue-is }
+fills c lent after z e h = rw z (record { number = e; red = h .red-is; green = h .green-is; blue = h .blue-is })
 
 -- what an accepted call of a frame's rows shows of row i, one of its own: its readings are there, and in range
 pub record RowRead (f : Frame) (readings : List ℕ) (i : ℕ) : Type 0 where

@@ -36,6 +36,10 @@ overPreview Preview columns rows = ltb 1024 columns || ltb 64 rows
 abbrev pub entryCases : Entry → (columns rows : ℕ) → List Case
 entryCases e columns rows = (overPreviewSize when overPreview e columns rows) ∷ []
 
+-- 1, 2; 10; 3; 11, in the preview only: of what a call names
+abbrev pub namedCases : Entry → Frame → (a n : ℕ) → List Case
+namedCases e f a n = frameCases f ++ (smoothingCases (f .smoothing) ++ (rowsCases f a n ++ entryCases e (f .width) n))
+
 -- 4, 5: the lengths of the piece, and of the three planes
 abbrev pub lengthCases : Frame → (a n : ℕ) (piece : List ℕ) (red green blue : ℕ) → List Case
 lengthCases f a n piece red green blue =
@@ -43,14 +47,9 @@ lengthCases f a n piece red green blue =
     ∷ (wrongPlaneLength when planesMisfit (n * f .width) red green blue)
     ∷ []
 
--- the number of the refusal, the first that holds: 1, 2; 10; 3; 11, in the preview only; 4, 5; 6. 0: accepted
+-- the number of the refusal, the first that holds of what a call names, then 4, 5, then 6. 0: accepted
 unfoldable pub stripNumber : Asked → (red green blue : ℕ) → ℕ
-stripNumber c red green blue = firstOf (
-    frameCases (c .frame)
-    ++ (smoothingCases (c .frame .smoothing)
-    ++ (rowsCases (c .frame) (c .first) (c .count)
-    ++ (entryCases (c .entry) (c .frame .width) (c .count)
-    ++ (lengthCases (c .frame) (c .first) (c .count) (c .piece) red green blue ++ rangeCases (c .piece))))))
+stripNumber c red green blue = firstOf (namedCases (c .entry) (c .frame) (c .first) (c .count) ++ (lengthCases (c .frame) (c .first) (c .count) (c .piece) red green blue ++ rangeCases (c .piece)))
 
 -- the samples of plane k that the rules give for its rows, from the piece, whatever the entry
 abbrev pub stripPlane : Asked → (k : Colour) → List ℕ

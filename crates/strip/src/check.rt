@@ -1,9 +1,9 @@
 ghost use mathlib.Core.Path.{_≡_};
 ghost use mathlib.Core.List.{_++_};
 ghost use Prim.Native.Nat.{_≤_};
-ghost use Rattle.bayer.specs.Condition.{frameCases, FrameFits, smoothingCases, rowsCases, rangeCases};
+ghost use Rattle.bayer.specs.Condition.{FrameFits, rangeCases};
 ghost use Rattle.bayer.specs.Refusal.{firstOf};
-ghost use Rattle.strip.specs.Strip.{asked, entryCases, lengthCases, stripNumber};
+ghost use Rattle.strip.specs.Strip.{asked, entryCases, namedCases, lengthCases, stripNumber};
 use crate::entry::Entry;
 use bayer::check::frame_check;
 use bayer::check::planes_misfit;
@@ -38,7 +38,7 @@ fn entry_check(entry: Entry, w: usize, n: usize) -> u32
 
 // Refusals 1, 2, 10, 3 and 11: of what a call names.
 fn named_check(entry: Entry, frame: Frame, a: usize, n: usize) -> u32
-    ensures { λ r. ⌜ r ≡ firstOf (frameCases frame ++ (smoothingCases (frame .smoothing) ++ (rowsCases frame a n ++ entryCases entry (frame .width) n))) ⌝ }
+    ensures { λ r. ⌜ r ≡ firstOf (namedCases entry frame a n) ⌝ }
 {
     let number = frame_check(frame);
     if number != 0 {

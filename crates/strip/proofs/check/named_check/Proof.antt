@@ -10,7 +10,7 @@ use lib.Dec.{ltb}
 use Rattle.bayer.specs.Condition.{frameCases, smoothingCases, rowsOutside, rowsCases}
 use Rattle.bayer.specs.Refusal.{Case, firstOf}
 use Rattle.bayer.proofs.RefusalLaws.{later, sooner}
-use Rattle.strip.specs.Strip.{entryCases}
+use Rattle.strip.specs.Strip.{entryCases, namedCases}
 use Rattle.strip.proofs.check.named_check.Statement.{statement}
 use Rattle.strip.proofs.check.named_check.Tie as tie
 
@@ -18,23 +18,23 @@ frame-check-requires : tie.Need-frame-check-requires
 frame-check-requires c κs = search needs
 
 returns : tie.Need-returns
-returns c = c .before .frame-check .ensures ∙ sym (sooner (frameCases (c .before .before .args .frame)) _ (λ e. c .if1 .taken (c .before .frame-check .ensures ∙ e)))
+returns c = c .before .frame-check .ensures ∙ sym (sooner (frameCases (c .before .before .args .frame)) _ (λ e. omega (arith, c .if1 .taken, c .before .frame-check .ensures, e)))
 
 abbrev smoothing : tie.Else1 → ℕ
 smoothing c = c .before .before .args .frame .smoothing
 
--- the last that the call is tested for, and all of it
+-- all that the call is tested for, and the last of it
+abbrev cases : tie.Start → List Case
+cases s = let a = s .args in namedCases (a .entry) (a .frame) (a .a) (a .n)
+
 abbrev last : tie.Start → List Case
 last s = let a = s .args in entryCases (a .entry) (a .frame .width) (a .n)
-
-abbrev cases : tie.Start → List Case
-cases s = let a = s .args in frameCases (a .frame) ++ (smoothingCases (a .frame .smoothing) ++ (rowsCases (a .frame) (a .a) (a .n) ++ last s))
 
 -- the frame is passed: its smoothing, the rows and the entry decide
 passed : (c : tie.Else1) → let s = c .before .before in
     firstOf (cases s) ≡ cond (ltb 1 (smoothing c)) 10 (cond (rowsOutside (s .args .frame .height) (s .args .a) (s .args .n)) 3 (firstOf (last s)))
 unfolding firstOf
-passed c = let s = c .before .before in later (frameCases (s .args .frame)) (smoothingCases (smoothing c) ++ (rowsCases (s .args .frame) (s .args .a) (s .args .n) ++ last s)) (sym (c .before .frame-check .ensures) ∙ c .if1 .left)
+passed c = let s = c .before .before in later (frameCases (s .args .frame)) (smoothingCases (smoothing c) ++ (rowsCases (s .args .frame) (s .args .a) (s .args .n) ++ last s)) (omega (arith, c .before .frame-check .ensures, c .if1 .left))
 
 returns-2 : tie.Need-returns-2
 returns-2 c = rw (passed (c .before .before), lt-ltb 1 (smoothing (c .before .before)) (omega (arith, c .if2 .taken))) (omega arith)

@@ -7,12 +7,12 @@ use Rattle.bayer.specs.Condition.{frameCases, smoothingCases, rowsCases}
 use Rattle.bayer.specs.Refusal.{Case, firstOf}
 use Rattle.bayer.proofs.RefusalLaws.{later, sooner, off-append}
 use Rattle.bayer.proofs.ConditionLaws.{frame-fits, rows-fit}
-use Rattle.strip.specs.Strip.{entryCases, stripNumber}
+use Rattle.strip.specs.Strip.{namedCases, stripNumber}
 use Rattle.strip.proofs.check.strip_check.Statement.{statement}
 use Rattle.strip.proofs.check.strip_check.Tie as tie
 
 abbrev named : tie.Start → List Case
-named s = let f = s .args .frame in frameCases f ++ (smoothingCases (f .smoothing) ++ (rowsCases f (s .args .a) (s .args .n) ++ entryCases (s .args .entry) (f .width) (s .args .n)))
+named s = namedCases (s .args .entry) (s .args .frame) (s .args .a) (s .args .n)
 
 named-check-requires : tie.Need-named-check-requires
 named-check-requires c κs = search needs
