@@ -1,6 +1,6 @@
 -- `strip::check::strip_check` meets its contract: what is named decides, and where it is passed what is lent. Assumes nothing.
 use mathlib.Core.Path.{_≡_, sym, _∙_}
-use mathlib.Core.List.{List, _++_}
+use mathlib.Core.List.{List}
 use native.Mathlib.Omega.{arith}
 use borrow.Author.Needs.{needs}
 use Rattle.bayer.specs.Condition.{frameCases, smoothingCases, rowsCases}
