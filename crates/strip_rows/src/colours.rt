@@ -58,7 +58,10 @@ fn colour_row(
     out: &mut [u16],
 )
     requires { ⌜ (Lent frame start (length (now piece)) v) × (AllAtMost 4095 (now piece)) × (same k Green ≡ false) ⌝ }
-    requires { ⌜ (now g ≡ greenRow frame start (now piece) v) × (now ga ≡ greenRow frame start (now piece) (mirror (frame .height) (pos v -ℤ pos 1))) × (now gb ≡ greenRow frame start (now piece) (mirror (frame .height) (pos v +ℤ pos 1))) × (length (now out) ≡ frame .width) ⌝ }
+    requires { ⌜ (now g ≡ greenRow frame start (now piece) v)
+        × (now ga ≡ greenRow frame start (now piece) (mirror (frame .height) (pos v -ℤ pos 1)))
+        × (now gb ≡ greenRow frame start (now piece) (mirror (frame .height) (pos v +ℤ pos 1)))
+        × (length (now out) ≡ frame .width) ⌝ }
     ensures { λ _. ⌜ now (out .exit) ≡ colourRow frame start (now (piece .entry)) k v ⌝ }
 {
     let w = frame.width;
