@@ -39,14 +39,16 @@ Q W H layout row red blue
 R H a n
     The rows that a strip is lent of the mosaic. Answer: rokzimp_piece_start and rokzimp_piece_rows.
 F choice c s s s s A A A A
-    Green of reading c by fusion of east, west, north, south, with the weights of smoothing choice: direction sums, and five-sums plus 2097152.
+    Green of reading c by fusion of east, west, north, south, with the weights of smoothing choice: direction sums, and five-sums plus 16380 T, of
+    which T is the weights' total.
     Answer: green in units.
 
 A line has 63 numbers at the most, and stdin no more bytes than the program has room for.
 
 Recipe. A number named in it counts modulo 65536, but for width, seed and at. The generator steps x to 1664525 x + 1013904223 modulo 2^32.
 Reading t of the piece is at row i = t / width + first and column j = t % width, of the frame; x is the generator after t + 1 steps from seed. With
-    noise = kind 0: (x / 2^20) amount / 4096;  kind 1: (x / 2^31) amount;  else: (x / 2^20 % 4) amount, only where x < 2^28
+    noise = kind 0: (x / 2^20) amount / 4096;  kind 1: (x / 2^31) amount;  kind 3: ((i / 4 + j / 3) % 7) amount, which is no noise but steps;
+            else: (x / 2^20 % 4) amount, only where x < 2^28
     v = base + down i + across j + oddrow (i % 2) + oddcol (j % 2) + checker ((i + j) % 2) + (step, only where i + j >= from) + noise
 the reading is, by shape, 0: min(v, 4095); 1: v % 4096; else: 4095 - min(v, 4095). Then the readings at the two `at` (if there are such) are set.
 Planes and mosaics hold, before the call, x / 2^16 with the generator from seed + 1 (red), seed + 2 (green), seed + 3 (blue), seed + 4 (mosaic), and test
@@ -72,7 +74,7 @@ LEAST = RULES.min_size               # of width and height
 UNNAMED = 256                        # a smoothing, or a method, that is not named
 NO_BANDS = [255, 0, 0]
 FULL_SIZE, PREVIEW = 0, 1            # entries
-ABOVE_ZERO = 2 ** 21                 # added to a five-sum; above 16380 times the largest total of weights
+MOST_SUM = 884520
 
 
 def step(x):
@@ -95,7 +97,7 @@ def reading(p, x, i, j):
     base, down, across, oddrow, oddcol, checker, from_, stp, kind, amount, shape = [n % M16 for n in p]
     i, j = i % M16, j % M16
     noise = (x >> 20) * amount // 4096 if kind == 0 else (x >> 31) * amount if kind == 1 else \
-        (x >> 20) % 4 * amount if x < 2 ** 28 else 0
+        (i // 4 + j // 3) % 7 * amount if kind == 3 else (x >> 20) % 4 * amount if x < 2 ** 28 else 0
     v = base + down * i + across * j + oddrow * (i % 2) + oddcol * (j % 2) + checker * ((i + j) % 2)
     v += (stp if i + j >= from_ else 0) + noise
     return min(v, 4095) if shape == 0 else v % 4096 if shape == 1 else 4095 - min(v, 4095)
@@ -227,9 +229,26 @@ def answer_R(v):
     return [lo, max(0, hi - lo)]
 
 
+def most_five(choice):
+    return 16380 * sum(r.WEIGHTS[choice])
+
+
+def added(choice, qs, As):
+    return r.fusion(qs, As, sum(r.WEIGHTS[choice]))
+
+
+def shares(sums):
+    return r.shares([r.guard(s) for s in sums], RULES.scale)
+
+
+def middle_reading(add):
+    """A reading whose green, with this added, is about the middle."""
+    return min(max((r.TOP // 2 - add) // 16, 0), 4095)
+
+
 def answer_F(v):
-    T, ts, As = sum(r.WEIGHTS[v[0]]), [r.guard(s) for s in v[2:6]], [A - ABOVE_ZERO for A in v[6:]]
-    return [r.stop(16 * v[1] + r.fusion(r.shares(ts, RULES.scale), As, T))]
+    choice, c, sums, As = v[0], v[1], v[2:6], [A - most_five(v[0]) for A in v[6:]]
+    return [r.stop(16 * c + added(choice, shares(sums), As))]
 
 
 ANSWER = {'S': answer_S, 'C': answer_C, 'M': answer_M, 'B': answer_B, 'J': answer_J, 'W': answer_W, 'L': answer_L, 'V': answer_V, 'Q': answer_Q, 'R': answer_R, 'F': answer_F}
@@ -381,6 +400,13 @@ class Maker:
             for choice in (2, 255):
                 assert call(choice)[0] == 10
         assert min(told) > count / 2, told
+
+    def steps(self):
+        """Few grey levels: what fusion adds is often a half, exactly, with smoothing 1 (random readings hardly give one)."""
+        for k in range(16):
+            amount = (25, 25, 25, 100, 1, 7, 585, 25)[k % 8]
+            got = self.strip(20 + 3 * k % 11, 19 + 5 * k % 13, k % 4, 0, 19 + 5 * k % 13, Recipe(kind=3, amount=amount), [], choice=(1, 1, 0)[k % 3], entry=k % 2)
+            assert got[0] == 0
 
     def wide_and_tall(self):
         g = self.g
@@ -717,7 +743,7 @@ class Maker:
 
     # -------------------------------------------------------- shares and fusion
     def fusion(self, choice, c, sums, As):
-        self.add('F', choice, c, *sums, *[A + ABOVE_ZERO for A in As])
+        self.add('F', choice, c, *sums, *[A + most_five(choice) for A in As])
 
     def fusions(self, count):
         g = self.g
@@ -729,9 +755,49 @@ class Maker:
         for _ in range(count):
             choice, *v = mk.F()[1:]
             ss = [g.randrange(5) if t == 4 else t for t in v[:4]]
-            add = r.fusion(r.shares([r.guard(s) for s in ss], RULES.scale), v[4:], sum(r.WEIGHTS[choice]))
-            c = min(max((r.TOP // 2 - add) // 16, 0), 4095) if g.random() < .8 else g.choice((0, 4095, g.randrange(4096)))
+            add = added(choice, shares(ss), v[4:])
+            c = middle_reading(add) if g.random() < .8 else g.choice((0, 4095, g.randrange(4096)))
             self.fusion(choice, c, ss, v[4:])
+
+    def shares_below(self):
+        """Shares so little below a whole number that a quotient of floats is that number; the green is another if the share is."""
+        self.note('shares that a quotient of floats, rounded down, gives one too large')
+        for m, t, q in ((240232, 397651, 6123185), (370117, 415319, 13323991), (233903, 388675, 6076006)):
+            for choice in range(2):
+                for k in range(4):
+                    self.share_below(choice, k, m, t, q)
+
+    def share_below(self, choice, k, m, t, q):
+        sums, most = [MOST_SUM] * 4, most_five(choice)
+        sums[k], sums[k - 1] = t, m
+        right = shares(sums)
+        wrong = right[:k] + [q + 1] + right[k + 1:]
+        assert right[k] == q and int(float(m * m) * RULES.scale / float(t * t)) == q + 1
+        As = [0] * 4
+        As[k], As[k - 1] = most, -most
+        while added(choice, right, As) == added(choice, wrong, As):
+            As[k - 1] += 1
+        self.fusion(choice, middle_reading(added(choice, right, As)), sums, As)
+
+    def halves(self, count):
+        """Exact halves, of large direction sums: 8N = T S (2h + 1), for h odd and even."""
+        self.note('exact halves of large direction sums')
+        g = random.Random(self.seed)
+        for choice in range(2):
+            T, most, found = sum(r.WEIGHTS[choice]), most_five(choice), 0
+            while found < count:
+                sums = [g.randrange(MOST_SUM // 9, MOST_SUM + 1) for _ in range(4)]
+                qs, h = shares(sums), 2 * g.randrange(-5000, 5000) + found % 2
+                i, j = qs.index(RULES.scale), g.randrange(4)
+                if i == j or qs[j] % 2 == 0 or T * sum(qs) % 8: continue
+                As = [0 if k in (i, j) else g.randrange(-most, most + 1) for k in range(4)]
+                rest = T * sum(qs) // 8 * (2 * h + 1) - sum(q * A for q, A in zip(qs, As))
+                As[j] = (rest * pow(qs[j], -1, RULES.scale) + RULES.scale // 2) % RULES.scale - RULES.scale // 2
+                As[i] = (rest - qs[j] * As[j]) // RULES.scale
+                if max(abs(As[i]), abs(As[j])) > most: continue
+                assert added(choice, qs, As) == h + 1
+                self.fusion(choice, middle_reading(h + 1), sums, As)
+                found += 1
 
 
 def room():
@@ -762,6 +828,8 @@ def main():
     m.row_views(200)
     m.partner_views(240)
     m.fusions(600)
+    m.shares_below()
+    m.halves(8)
     m.pieces(120)
     m.mosaics(200)
     m.off_camera(60)
@@ -769,6 +837,7 @@ def main():
     m.jumps(60)
     m.test_frames(40)
     m.test_rows(40)
+    m.steps()
     assert len('\n'.join(m.lines)) < room(), 'stdin is longer than the program reads'
     os.makedirs(where, exist_ok=True)
     for name, lines in (('stdin', m.lines), ('stdout', m.answers)):

@@ -26,7 +26,7 @@ pub fn times(a: usize, b: usize) -> usize
     low(a) * low(b)
 }
 
-fn noise(f: &Fields, x: usize) -> usize
+fn noise(f: &Fields, x: usize, i: usize, j: usize) -> usize
     ensures { λ r. ⌜ r < 4294967296 ⌝ }
 {
     let amount = f[24];
@@ -35,6 +35,9 @@ fn noise(f: &Fields, x: usize) -> usize
     }
     if low(f[23]) == 1 {
         return times(x / 2147483648, amount);
+    }
+    if low(f[23]) == 3 {
+        return times((low(i) / 4 + low(j) / 3) % 7, amount);
     }
     if x < 268435456 {
         return times(x / 1048576 % 4, amount);
@@ -70,7 +73,7 @@ fn reading(f: &Fields, x: usize, i: usize, j: usize) -> u16 {
     let diagonal = low(i) + low(j);
     let ramp = low(f[15]) + times(f[16], i) + times(f[17], j);
     let tiles = times(f[18], i % 2) + times(f[19], j % 2) + times(f[20], diagonal % 2);
-    let v = ramp + tiles + edge(f, diagonal) + noise(f, x);
+    let v = ramp + tiles + edge(f, diagonal) + noise(f, x, i, j);
     narrow(shaped(low(f[25]), v))
 }
 

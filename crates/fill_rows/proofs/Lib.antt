@@ -1,5 +1,6 @@
 pub mod SideLaws
-pub mod ChoiceLaws
-pub mod EndLaws
 pub mod RowColours
 pub mod FillRowLaws
+pub mod FilledLaws
+pub mod EdgeLaws
+pub mod HalfFillLaws

@@ -1,124 +1,80 @@
 ghost use mathlib.Core.Path.{_≡_};
-ghost use mathlib.Core.Bool.{cond};
-ghost use Prim.Native.Nat.{_+_, _≤_, _<_};
-ghost use lib.IntN.{natAbs};
+ghost use Prim.Native.Nat.{_+_, _*_, _≤_, _<_};
 ghost use lib.ListN.{length};
 ghost use Rattle.lists.specs.Table.{table};
-ghost use Rattle.lists.specs.Bound.{AllAtMost};
-ghost use Rattle.bayer.specs.Parity.{isOdd};
-ghost use Rattle.fill_rows.specs.FillRow.{leftOf, rightOf, colourDifferenceAt, ownIn, otherIn};
-use bayer::mirror::mirror;
-use demosaic::fill::colour_difference;
-use demosaic::fill::diagonal;
-use demosaic::fill::pair;
+ghost use Rattle.lists.specs.Bound.{AllAtMost, AllWithin};
+ghost use Rattle.fill_rows.specs.FillRow.{ownIn, otherIn};
+ghost use Rattle.fill_rows.specs.HalfFill.{pixels, edged, otherEdged};
+use crate::edge::edged;
+use crate::half::diagonals;
+use crate::half::pairs;
+use half_rows::interleave;
+use half_rows::observed;
 
-// Green minus 16 times the reading at column p.
-fn colour_difference_at(x: &[u16], g: &[u16], p: usize) -> i32
-    requires { ⌜ (p < length (now x)) × (p < length (now g)) ⌝ }
-    ensures { λ e. ⌜ (e ≡ colourDifferenceAt (now (x .entry)) (now (g .entry)) p) × (natAbs e ≤ 1048560) ⌝ }
-{
-    colour_difference(g[p], x[p])
-}
-
-// Whether column j is green. In 32 bits, as the sums are: in 64 a loop over columns would take half as many at a time.
-fn is_green(odd: usize, j: usize) -> bool
-    requires { ⌜ (odd < 2) × (j < 4096) ⌝ }
-    ensures { λ r. ⌜ r ≡ isOdd (j + odd) ⌝ }
-{
-    (j as u32 + odd as u32) % 2 == 1
-}
-
-// a if the test holds, else b. Both are worked out before, so a loop over columns has no branch.
-fn chosen(test: bool, a: i32, b: i32) -> i32
-    ensures { λ r. ⌜ r ≡ cond test a b ⌝ }
-{
-    if test { a } else { b }
-}
-
-// The sample of the row's own colour at column j, from the columns l and r that are read beside it.
-fn own_between(x: &[u16], g: &[u16], odd: usize, l: usize, j: usize, r: usize) -> u16
-    requires { ⌜ (odd < 2) × (2 ≤ length (now x)) × (length (now x) ≤ 4096) × (length (now g) ≡ length (now x)) × (j < length (now x)) × (AllAtMost 4095 (now x)) ⌝ }
-    requires { ⌜ (l ≡ leftOf (length (now x)) j) × (r ≡ rightOf (length (now x)) j) ⌝ }
-    ensures { λ s. ⌜ s ≡ ownIn (length (now (x .entry))) odd (now (x .entry)) (now (g .entry)) j ⌝ }
-{
-    let filled = pair(
-        g[j],
-        colour_difference_at(x, g, l),
-        colour_difference_at(x, g, r),
-    );
-    let observed = 16 * (x[j] as i32);
-    whole::clamp(chosen(is_green(odd, j), filled, observed))
-}
-
-// The same at any column: the mirrors say which columns are read beside it.
-fn own_at(x: &[u16], g: &[u16], odd: usize, j: usize) -> u16
-    requires { ⌜ (odd < 2) × (2 ≤ length (now x)) × (length (now x) ≤ 4096) × (length (now g) ≡ length (now x)) × (j < length (now x)) × (AllAtMost 4095 (now x)) ⌝ }
-    ensures { λ r. ⌜ r ≡ ownIn (length (now (x .entry))) odd (now (x .entry)) (now (g .entry)) j ⌝ }
-{
-    let l = mirror(x.len(), j, 1);
-    let r = mirror(x.len(), j + 1, 0);
-    own_between(x, g, odd, l, j, r)
-}
-
-// A row of the plane of the colour that shares it with green.
-pub fn own_row(x: &[u16], g: &[u16], odd: usize, out: &mut [u16])
-    requires { ⌜ (odd < 2) × (2 ≤ length (now x)) × (length (now x) ≤ 4096) × (length (now g) ≡ length (now x)) × (length (now out) ≡ length (now x)) × (AllAtMost 4095 (now x)) ⌝ }
+// A row of the plane of the colour that shares it with green, from the row's colour differences e. The colour's pixels are at the columns odd, odd + 2, ..;
+// p is room for the samples there, q for those at green.
+fn own_from(
+    x: &[u16],
+    g: &[u16],
+    e: &[i32],
+    odd: usize,
+    p: &mut [u16],
+    q: &mut [u16],
+    out: &mut [u16],
+)
+    requires { ⌜ (odd < 2) × (2 ≤ length (now x)) × (length (now g) ≡ length (now x)) × (length (now out) ≡ length (now x)) × (AllAtMost 4095 (now x)) × (AllWithin 1048560 (now e)) ⌝ }
+    requires { ⌜ (now e ≡ edged odd (now x) (now g)) × (length (now p) ≡ pixels (length (now x)) odd) × (length (now p) + length (now q) ≡ length (now x)) × (length (now e) ≡ length (now p) + 2) ⌝ }
     ensures { λ _. ⌜ now (out .exit) ≡ table (ownIn (length (now (x .entry))) odd (now (x .entry)) (now (g .entry))) (length (now (x .entry))) ⌝ }
 {
-    let last = out.len() - 1;
-    out[0] = own_at(x, g, odd, 0);
-    let mut j = 1;
-    while j < last {
-        out[j] = own_between(x, g, odd, j - 1, j, j + 1);
-        j += 1;
-    }
-    out[last] = own_at(x, g, odd, last);
+    let left = 1 - odd;
+    let right = left + 1;
+    observed(&x[odd..], p);
+    pairs(&g[left..], &e[left..], &e[right..], q);
+    interleave(odd, p, q, out);
 }
 
-// The sample of the other colour at column j, from the columns l and r that are read beside it.
-fn other_between(
+// The same from the row; e, p and q are room to work in.
+pub fn own_row(
+    x: &[u16],
     g: &[u16],
-    xa: &[u16],
-    ga: &[u16],
-    xb: &[u16],
-    gb: &[u16],
     odd: usize,
-    l: usize,
-    j: usize,
-    r: usize,
-) -> u16
-    requires { ⌜ (odd < 2) × (2 ≤ length (now g)) × (length (now g) ≤ 4096) × (j < length (now g)) ⌝ }
-    requires { ⌜ (length (now xa) ≡ length (now g)) × (length (now ga) ≡ length (now g)) × (length (now xb) ≡ length (now g)) × (length (now gb) ≡ length (now g)) ⌝ }
-    requires { ⌜ (l ≡ leftOf (length (now g)) j) × (r ≡ rightOf (length (now g)) j) ⌝ }
-    ensures { λ s. ⌜ s ≡ otherIn (length (now (g .entry))) odd (now (g .entry)) (now (xa .entry)) (now (ga .entry)) (now (xb .entry)) (now (gb .entry)) j ⌝ }
+    e: &mut [i32],
+    p: &mut [u16],
+    q: &mut [u16],
+    out: &mut [u16],
+)
+    requires { ⌜ (odd < 2) × (2 ≤ length (now x)) × (length (now x) ≤ 4096) × (length (now g) ≡ length (now x)) × (length (now out) ≡ length (now x)) × (AllAtMost 4095 (now x)) ⌝ }
+    requires { ⌜ (length (now x) + 5 ≤ length (now e)) × (length (now x) ≤ 2 * length (now p)) × (length (now x) ≤ 2 * length (now q)) ⌝ }
+    ensures { λ _. ⌜ now (out .exit) ≡ table (ownIn (length (now (x .entry))) odd (now (x .entry)) (now (g .entry))) (length (now (x .entry))) ⌝ }
 {
-    let by_column = pair(
-        g[j],
-        colour_difference_at(xa, ga, j),
-        colour_difference_at(xb, gb, j),
-    );
-    let by_diagonal = diagonal(
-        g[j],
-        colour_difference_at(xa, ga, l),
-        colour_difference_at(xa, ga, r),
-        colour_difference_at(xb, gb, l),
-        colour_difference_at(xb, gb, r),
-    );
-    whole::clamp(chosen(is_green(odd, j), by_column, by_diagonal))
+    let m = (x.len() + 1 - odd) / 2;
+    let n = x.len() - m;
+    let end = m + 2;
+    edged(x, g, odd, &mut e[0..end]);
+    own_from(x, g, &e[0..end], odd, &mut p[0..m], &mut q[0..n], out);
 }
 
-// The same at any column: the mirrors say which columns are read beside it.
-fn other_at(g: &[u16], xa: &[u16], ga: &[u16], xb: &[u16], gb: &[u16], odd: usize, j: usize) -> u16
-    requires { ⌜ (odd < 2) × (2 ≤ length (now g)) × (length (now g) ≤ 4096) × (j < length (now g)) ⌝ }
-    requires { ⌜ (length (now xa) ≡ length (now g)) × (length (now ga) ≡ length (now g)) × (length (now xb) ≡ length (now g)) × (length (now gb) ≡ length (now g)) ⌝ }
-    ensures { λ r. ⌜ r ≡ otherIn (length (now (g .entry))) odd (now (g .entry)) (now (xa .entry)) (now (ga .entry)) (now (xb .entry)) (now (gb .entry)) j ⌝ }
+// A row of the plane of the other colour, from the colour differences of the rows above and below, which have the colour where this row is green.
+fn other_from(
+    g: &[u16],
+    above: &[i32],
+    below: &[i32],
+    odd: usize,
+    p: &mut [u16],
+    q: &mut [u16],
+    out: &mut [u16],
+)
+    requires { ⌜ (odd < 2) × (2 ≤ length (now g)) × (length (now out) ≡ length (now g)) × (AllWithin 1048560 (now above)) × (AllWithin 1048560 (now below)) ⌝ }
+    requires { ⌜ (length (now p) ≡ pixels (length (now g)) odd) × (length (now p) + length (now q) ≡ length (now g)) × (length (now above) ≡ length (now q) + 2) × (length (now below) ≡ length (now q) + 2) ⌝ }
+    ensures { λ _. ⌜ now (out .exit) ≡ table (otherEdged odd (now (g .entry)) (now (above .entry)) (now (below .entry))) (length (now (g .entry))) ⌝ }
 {
-    let l = mirror(g.len(), j, 1);
-    let r = mirror(g.len(), j + 1, 0);
-    other_between(g, xa, ga, xb, gb, odd, l, j, r)
+    let green = 1 - odd;
+    diagonals(&g[odd..], &above[odd..], &below[odd..], p);
+    pairs(&g[green..], &above[1..], &below[1..], q);
+    interleave(odd, p, q, out);
 }
 
-// A row of the plane of the other colour, from the readings and greens of the rows above and below.
+// The same from the readings and greens of the rows above and below; e, p and q are room to work in.
 pub fn other_row(
     g: &[u16],
     xa: &[u16],
@@ -126,18 +82,29 @@ pub fn other_row(
     xb: &[u16],
     gb: &[u16],
     odd: usize,
+    e: &mut [i32],
+    p: &mut [u16],
+    q: &mut [u16],
     out: &mut [u16],
 )
     requires { ⌜ (odd < 2) × (2 ≤ length (now g)) × (length (now g) ≤ 4096) × (length (now out) ≡ length (now g)) ⌝ }
     requires { ⌜ (length (now xa) ≡ length (now g)) × (length (now ga) ≡ length (now g)) × (length (now xb) ≡ length (now g)) × (length (now gb) ≡ length (now g)) ⌝ }
+    requires { ⌜ (length (now g) + 5 ≤ length (now e)) × (length (now g) ≤ 2 * length (now p)) × (length (now g) ≤ 2 * length (now q)) ⌝ }
     ensures { λ _. ⌜ now (out .exit) ≡ table (otherIn (length (now (g .entry))) odd (now (g .entry)) (now (xa .entry)) (now (ga .entry)) (now (xb .entry)) (now (gb .entry))) (length (now (g .entry))) ⌝ }
 {
-    let last = out.len() - 1;
-    out[0] = other_at(g, xa, ga, xb, gb, odd, 0);
-    let mut j = 1;
-    while j < last {
-        out[j] = other_between(g, xa, ga, xb, gb, odd, j - 1, j, j + 1);
-        j += 1;
-    }
-    out[last] = other_at(g, xa, ga, xb, gb, odd, last);
+    let m = (g.len() + 1 - odd) / 2;
+    let n = g.len() - m;
+    let half = n + 2;
+    let end = half + half;
+    edged(xa, ga, 1 - odd, &mut e[0..half]);
+    edged(xb, gb, 1 - odd, &mut e[half..end]);
+    other_from(
+        g,
+        &e[0..half],
+        &e[half..end],
+        odd,
+        &mut p[0..m],
+        &mut q[0..n],
+        out,
+    );
 }

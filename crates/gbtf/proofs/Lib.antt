@@ -1,6 +1,6 @@
 pub mod PixelBounds
+pub mod Signs
 pub mod WeightLaws
-pub mod MachineBounds
 pub mod Mean
 pub mod PrintedForms
 pub mod GreenError

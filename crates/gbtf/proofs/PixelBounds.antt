@@ -2,18 +2,17 @@
 use mathlib.Core.Bool.{Bool, true, false}
 use mathlib.Core.List.{List, [], _∷_}
 use Prim.Native.Nat.{ℕ, _+_, _*_, _≤_}
-use native.Mathlib.Nat.{le-refl, le-trans, mul-le-mul, mul-le-mul-left, div-le-of-le-mul}
+use native.Mathlib.Nat.{le-refl, le-trans}
 use native.Mathlib.Omega.{arith}
 use lib.IntN.{ℤ, natAbs}
 use lib.ListN.{getD}
 use mir.Syntax.{w64}
-use Rattle.whole.proofs.Pairs.{Pair, natₚ, _+ₚ_, _-ₚ_, _*ₚ_, within-by}
+use Rattle.whole.proofs.Pairs.{Pair, natₚ, _+ₚ_, _-ₚ_, _*ₚ_, within-by, abs-by}
 use Rattle.whole.proofs.Magnitudes.{sub-within}
 use Rattle.whole.proofs.Signed.{E, nat, int, _⊕_, _⊗_, within}
 use Rattle.gbtf.specs.Bounds.{mostDifference, mostPlainGradient, mostGradient, mostSum}
 use Rattle.gbtf.specs.Difference.{difference, plainGradient}
 use Rattle.gbtf.specs.Direction.{directionSum, fiveSum, total}
-use Rattle.gbtf.specs.Fusion.{share}
 use Rattle.gbtf.specs.Machine.{Readings}
 
 -- ---- differences and gradients
@@ -26,6 +25,11 @@ pub difference-within : (green : Bool) {c l r p q : ℕ} → Readings c l r p q 
 unfolding difference
 difference-within false {c} {l} {r} {p} {q} h = within-by (differenceₚ false c l r p q) (omega arith) (omega arith)
 difference-within true {c} {l} {r} {p} {q} h = within-by (differenceₚ true c l r p q) (omega arith) (omega arith)
+
+-- two that are worked out as at one kind of centre, two places apart on a line of seven readings
+pub differences-apart : {a b c d e f g : ℕ} → a ≤ 4095 → b ≤ 4095 → c ≤ 4095 → d ≤ 4095 → e ≤ 4095 → f ≤ 4095 → g ≤ 4095 → plainGradient (difference false c b d a e) (difference false e d f c g) ≤ mostDifference
+unfolding difference
+differences-apart {a} {b} {c} {d} {e} {f} {g} ha hb hc hd he hf hg = omega (arith, abs-by (differenceₚ false c b d a e -ₚ differenceₚ false e d f c g))
 
 pub plain-gradient-within : (d e : ℤ) → natAbs d ≤ mostDifference → natAbs e ≤ mostDifference → plainGradient d e ≤ mostPlainGradient
 plain-gradient-within d e h k = sub-within d e h k
@@ -43,7 +47,3 @@ five-sum-within ws D {B} h = le-trans (within (by 0 ⊕ by 1 ⊕ by 2 ⊕ by 3 �
   where
     by : ℕ → E w64
     by k = nat (getD ws k 0) (getD ws k 0) (le-refl _) ⊗ int (D k) B (h k)
-
--- ---- shares
-pub share-le : (K : ℕ) {m t : ℕ} → m ≤ t → share K m t ≤ K
-share-le K {m} {t} h = div-le-of-le-mul (t * t) (omega (arith, mul-le-mul-left K (mul-le-mul h h)))

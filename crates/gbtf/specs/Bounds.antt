@@ -1,4 +1,4 @@
--- How large a difference, a plain gradient, a gradient and a direction sum can be, of readings up to 4095. Assumes nothing.
+-- Bounds on a difference, a plain gradient, a gradient and a direction sum, of readings up to 4095. Assumes nothing.
 use Prim.Native.Nat.{ℕ}
 
 -- 4 × 4095

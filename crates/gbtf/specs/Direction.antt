@@ -3,7 +3,9 @@ use Prim.Native.Nat.{ℕ, _+_, max}
 use mathlib.Core.List.{List, []}
 use lib.IntN.{ℤ, pos, _+ℤ_, _*ℤ_}
 use lib.ListN.{getD}
+use Rattle.bayer.specs.Parity.{isOdd}
 use Rattle.gbtf.specs.declared.direction.Direction.{Direction}
+use Rattle.gbtf.specs.Difference.{turned}
 
 -- document 01's direction sum: the nine gradients of a window, which stand as three rows of three (equation 10)
 abbrev pub sum3 : (ℕ → ℕ) → ℕ
@@ -20,6 +22,10 @@ guarded s = max s 4
 abbrev pub fiveSum : (weights : List ℕ) (D : ℕ → ℤ) → ℤ
 fiveSum ws D =
     pos (getD ws 0 0) *ℤ D 0 +ℤ pos (getD ws 1 0) *ℤ D 1 +ℤ pos (getD ws 2 0) *ℤ D 2 +ℤ pos (getD ws 3 0) *ℤ D 3 +ℤ pos (getD ws 4 0) *ℤ D 4
+
+-- differences from a red or blue pixel outward, each worked out as at a red or blue centre: every second one is at a green centre
+abbrev pub alternating : (D : ℕ → ℤ) → ℕ → ℤ
+alternating D k = turned (isOdd k) (D k)
 
 -- the weights' total T
 abbrev pub total : (weights : List ℕ) → ℕ

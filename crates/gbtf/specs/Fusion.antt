@@ -31,11 +31,13 @@ sharedDifferences K m (d ∷ l) = pos (share K m (guardedSum d)) *ℤ d .five +�
 unfoldable pub fusion : (N : ℤ) (S T : ℕ) → ℤ
 fusion N S T = floorDiv (pos 8 *ℤ N +ℤ pos (T * S)) (2 * (T * S))
 
+-- of the directions
+abbrev pub fused : (K T : ℕ) → Direction → List Direction → ℤ
+fused K T d l = let m = smallestSum d l in fusion (sharedDifferences K m (d ∷ l)) (shares K m (d ∷ l)) T
+
 -- green in units before it is clamped, c the reading (equation 12)
 abbrev pub unclampedGreen : (K T c : ℕ) → Direction → List Direction → ℤ
-unclampedGreen K T c d l =
-    let m = smallestSum d l in
-    pos (16 * c) +ℤ fusion (sharedDifferences K m (d ∷ l)) (shares K m (d ∷ l)) T
+unclampedGreen K T c d l = pos (16 * c) +ℤ fused K T d l
 
 -- clamped: document 01 says "stopped"
 unfoldable pub green : (K T c : ℕ) → Direction → List Direction → ℕ

@@ -4,11 +4,15 @@ use mathlib.Core.Path.{_≡_}
 use native.Mathlib.Omega.{arith}
 use Rattle.green_blocks.specs.Room.{Room}
 
-pub room-kept : {w x d g t f x′ d′ g′ t′ f′ : ℕ} → Room w x d g t f → x′ ≡ x → d′ ≡ d → g′ ≡ g → t′ ≡ t → f′ ≡ f → Room w x′ d′ g′ t′ f′
-room-kept r p q u v y = record {
-  for-readings = omega (arith, r .for-readings);
-  for-differences = omega (arith, r .for-differences);
-  for-gradients = omega (arith, r .for-gradients);
-  for-sums = omega (arith, r .for-sums);
-  for-fives = omega (arith, r .for-fives);
+pub room-kept : {w x d g v t f r p q x′ d′ g′ v′ t′ f′ r′ p′ q′ : ℕ} → Room w x d g v t f r p q → x′ ≡ x → d′ ≡ d → g′ ≡ g → v′ ≡ v → t′ ≡ t → f′ ≡ f → r′ ≡ r → p′ ≡ p → q′ ≡ q → Room w x′ d′ g′ v′ t′ f′ r′ p′ q′
+room-kept h a b c d e f g i j = record {
+  for-readings = omega (arith, h .for-readings);
+  for-differences = omega (arith, h .for-differences);
+  for-gradients = omega (arith, h .for-gradients);
+  for-column-sums = omega (arith, h .for-column-sums);
+  for-sums = omega (arith, h .for-sums);
+  for-fives = omega (arith, h .for-fives);
+  for-fused = omega (arith, h .for-fused);
+  for-half = omega (arith, h .for-half);
+  for-other-half = omega (arith, h .for-other-half);
 }

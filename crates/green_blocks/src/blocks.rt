@@ -1,5 +1,5 @@
 ghost use mathlib.Core.Path.{_≡_};
-ghost use Prim.Native.Nat.{ℕ, _+_, _*_, _%_, _≤_, _<_, min};
+ghost use Prim.Native.Nat.{ℕ, _+_, _*_, _≤_, _<_, min};
 ghost use lib.ListN.{length};
 ghost use Rattle.lists.specs.Table.{joined};
 ghost use Rattle.lists.specs.Bound.{AllAtMost};
@@ -9,19 +9,11 @@ ghost use Rattle.green_blocks.specs.Room.{Room};
 use crate::block::green_block;
 use bayer::frame::Frame;
 
-// How many places a buffer has for a row of w readings: from column -7 to column w + 6, and one more if that makes them odd.
-fn stride(w: usize) -> usize
-    requires { ⌜ w ≤ 4096 ⌝ }
-    ensures { λ s. ⌜ (s % 2 ≡ 1) × (w + 14 ≤ s) × (s ≤ w + 15) ⌝ }
-{
-    if w % 2 == 0 { w + 15 } else { w + 14 }
-}
-
 // The rows of a block: more would make the buffers larger and save little.
 fn block_size(n: usize) -> usize
-    ensures { λ b. ⌜ b ≡ min n 4 ⌝ }
+    ensures { λ b. ⌜ b ≡ min n 8 ⌝ }
 {
-    if n < 4 { n } else { 4 }
+    if n < 8 { n } else { 8 }
 }
 
 // Green of rows v to v + b - 1, in as much of the room as b rows need.
@@ -31,41 +23,48 @@ fn green_block_in(
     piece: &[u16],
     v: usize,
     b: usize,
-    s: usize,
     x: &mut [u16],
-    d: &mut [i32],
-    g: &mut [u32],
+    d: &mut [i16],
+    g: &mut [u16],
+    tv: &mut [u32],
     t: &mut [u32],
     f: &mut [i32],
+    r: &mut [i32],
+    p: &mut [u16],
+    q: &mut [u16],
     out: &mut [u16],
 )
-    requires { ⌜ ((i : ℕ) → i < b → Lent frame start (length (now piece)) (v + i)) × (0 < b) × (b ≤ 4) × (AllAtMost 4095 (now piece)) ⌝ }
-    requires { ⌜ (s % 2 ≡ 1) × (frame .width + 14 ≤ s) × (s ≤ frame .width + 15) ⌝ }
-    requires { ⌜ (16 * s ≤ length (now x)) × (18 * s ≤ length (now d)) × (14 * s ≤ length (now g)) × (4 * frame .width ≤ length (now t)) × (4 * frame .width ≤ length (now f)) × (length (now out) ≡ b * frame .width) ⌝ }
+    requires { ⌜ ((i : ℕ) → i < b → Lent frame start (length (now piece)) (v + i)) × (0 < b) × (b ≤ 8) × (AllAtMost 4095 (now piece)) ⌝ }
+    requires { ⌜ (Room (frame .width) (length (now x)) (length (now d)) (length (now g)) (length (now tv)) (length (now t)) (length (now f)) (length (now r)) (length (now p)) (length (now q))) × (length (now out) ≡ b * frame .width) ⌝ }
     ensures { λ _. ⌜ now (out .exit) ≡ joined (λ i. greenRow frame start (now (piece .entry)) (v + i)) b ⌝ }
 {
+    let s = frame.width + 14;
+    let h = (frame.width + 1) / 2;
     let m = b * s;
     let xs = m + 12 * s;
     let ds = 2 * m + 10 * s;
     let gs = 2 * m + 6 * s - 4;
-    let sums = 4 * frame.width;
+    let ts = b * h + 2 * h;
     green_block(
         frame,
         start,
         piece,
         v,
         b,
-        s,
         &mut x[0..xs],
         &mut d[0..ds],
         &mut g[0..gs],
-        &mut t[0..sums],
-        &mut f[0..sums],
+        &mut tv[0..ts],
+        t,
+        f,
+        r,
+        p,
+        q,
         out,
     );
 }
 
-// Green of rows a to a + n - 1, block after block, in room for the readings, differences and gradients of a block and for a row's sums and five-sums.
+// Green of rows a to a + n - 1, block after block, in room for the readings, differences, gradients and direction sums of a block and for a row's sums and half rows.
 pub fn green_rows(
     frame: Frame,
     start: usize,
@@ -73,19 +72,22 @@ pub fn green_rows(
     a: usize,
     n: usize,
     x: &mut [u16],
-    d: &mut [i32],
-    g: &mut [u32],
+    d: &mut [i16],
+    g: &mut [u16],
+    tv: &mut [u32],
     t: &mut [u32],
     f: &mut [i32],
+    r: &mut [i32],
+    p: &mut [u16],
+    q: &mut [u16],
     out: &mut [u16],
 )
     requires { ⌜ ((i : ℕ) → i < n → Lent frame start (length (now piece)) (a + i)) × (AllAtMost 4095 (now piece)) ⌝ }
     requires { ⌜ (n ≤ 4096) × (a ≤ 4096) × (frame .width ≤ 4096) ⌝ }
-    requires { ⌜ (Room (frame .width) (length (now x)) (length (now d)) (length (now g)) (length (now t)) (length (now f))) × (length (now out) ≡ n * frame .width) ⌝ }
+    requires { ⌜ (Room (frame .width) (length (now x)) (length (now d)) (length (now g)) (length (now tv)) (length (now t)) (length (now f)) (length (now r)) (length (now p)) (length (now q))) × (length (now out) ≡ n * frame .width) ⌝ }
     ensures { λ _. ⌜ now (out .exit) ≡ joined (λ i. greenRow frame start (now (piece .entry)) (a + i)) n ⌝ }
 {
     let w = frame.width;
-    let s = stride(w);
     let mut i = 0;
     while i < n {
         let b = block_size(n - i);
@@ -97,12 +99,15 @@ pub fn green_rows(
             piece,
             a + i,
             b,
-            s,
             x,
             d,
             g,
+            tv,
             t,
             f,
+            r,
+            p,
+            q,
             &mut out[at..end],
         );
         i += b;

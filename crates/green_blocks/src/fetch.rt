@@ -10,8 +10,8 @@ use green_row::extend::extend;
 
 // Rows v - 6 to v + b + 5 of the continued mosaic, each s places wide, from column -7 on.
 pub fn fetch(frame: Frame, start: usize, piece: &[u16], v: usize, b: usize, s: usize, x: &mut [u16])
-    requires { ⌜ ((i : ℕ) → i < b → Lent frame start (length (now piece)) (v + i)) × (0 < b) × (b ≤ 4) ⌝ }
-    requires { ⌜ (frame .width + 14 ≤ s) × (s ≤ frame .width + 15) × (length (now x) ≡ b * s + 12 * s) ⌝ }
+    requires { ⌜ ((i : ℕ) → i < b → Lent frame start (length (now piece)) (v + i)) × (0 < b) × (b ≤ 8) ⌝ }
+    requires { ⌜ (frame .width + 14 ≡ s) × (length (now x) ≡ b * s + 12 * s) ⌝ }
     ensures { λ _. ⌜ now (x .exit) ≡ joined (extendedRow frame start (now (piece .entry)) v s) (b + 12) ⌝ }
 {
     let w = frame.width;

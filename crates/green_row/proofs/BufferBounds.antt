@@ -1,22 +1,27 @@
 -- Bounds on what stands in the buffers. Assumes nothing.
-use Prim.Native.Nat.{ℕ, _+_, _-_, _*_, _≤_}
+use Prim.Native.Nat.{ℕ, suc, _+_, _-_, _*_, _≤_}
+use mathlib.Core.Bool.{false}
 use mathlib.Core.List.{List}
+use mathlib.Core.Path.{_≡_, _∙_, ap, ap₂}
+use native.Mathlib.Decide.{decLe}
+use native.Mathlib.Nat.{le-trans, le-of-eq}
 use native.Mathlib.Omega.{arith}
 use lib.IntN.{ℤ, pos, natAbs, subℕ}
-use lib.ListN.{getD}
+use lib.ListN.{getD, List·getD-eq-default}
+use Rattle.whole.proofs.Pairs.{anyₚ, natₚ, _-ₚ_, eq-by}
 use Rattle.lists.specs.Part.{rowOf}
 use Rattle.lists.specs.Table.{table, joined}
 use Rattle.lists.specs.Bound.{AllAtMost, AllWithin}
 use Rattle.lists.proofs.BoundLaws.{all-parts, row-at-most}
-use Rattle.lists.proofs.TableLaws.{table-all}
+use Rattle.lists.proofs.TableLaws.{table-all, length-table, getD-table}
 use Rattle.bayer.specs.declared.frame.Frame.{Frame}
 use Rattle.bayer.specs.Mirror.{mirror}
-use Rattle.bayer.specs.Parity.{isOdd}
-use Rattle.gbtf.specs.Bounds.{mostDifference, mostPlainGradient, mostGradient, mostSum}
+use Rattle.gbtf.specs.Bounds.{mostDifference, mostGradient, mostSum}
+use Rattle.gbtf.specs.Difference.{difference, plainGradient}
 use Rattle.gbtf.specs.Direction.{directionSum}
-use Rattle.gbtf.proofs.PixelBounds.{difference-within, plain-gradient-within, gradient-within, direction-sum-within}
+use Rattle.gbtf.proofs.PixelBounds.{difference-within, differences-apart, direction-sum-within}
 use Rattle.green_row.specs.Directions.{windowIn}
-use Rattle.green_row.specs.AlongAxis.{differenceIn, plainGradientIn, gradientIn}
+use Rattle.green_row.specs.AlongAxis.{differenceIn, gradientIn, Apart}
 use Rattle.green_row.specs.Extended.{column, extendedRow}
 
 -- ---- rows of readings
@@ -26,16 +31,34 @@ extended-at-most f first rows v s n {m} h =
     (λ r c _ _. row-at-most (f .width) (mirror (f .height) (subℕ (v + r) 6) - first) rows h _)
 
 -- ---- differences and gradients
-pub differences-within : (step odd : ℕ) (x : List ℕ) (n : ℕ) → AllAtMost 4095 x → AllWithin mostDifference (table (differenceIn step odd x) n)
-differences-within step odd x n h =
-    table-all (λ d. natAbs d ≤ mostDifference) (differenceIn step odd x) n (omega arith)
-    (λ k _. difference-within (isOdd (k + odd)) (record { centre = h _; left = h _; right = h _; second = h _; other = h _ }))
+module _ (step : ℕ) (x : List ℕ) (n : ℕ) (h : AllAtMost 4095 x) where
+  pub differences-within : AllWithin mostDifference (table (differenceIn step x) n)
+  differences-within =
+      table-all (λ d. natAbs d ≤ mostDifference) (differenceIn step x) n (omega arith)
+      (λ k _. difference-within false (record { centre = h _; left = h _; right = h _; second = h _; other = h _ }))
 
-pub gradients-at-most : (step : ℕ) (d : List ℤ) (n : ℕ) → AllWithin mostDifference d → AllAtMost mostGradient (table (gradientIn step d) n)
-gradients-at-most step d n h = table-all (λ g. g ≤ mostGradient) (gradientIn step d) n (omega arith) (λ k _. gradient-within (plain k) (plain (k + step)) (plain (k + 2 * step)))
-  where
-    plain : (k : ℕ) → plainGradientIn step d k ≤ mostPlainGradient
-    plain k = plain-gradient-within (getD d k (pos 0)) (getD d (k + 2 * step) (pos 0)) (h k) (h (k + 2 * step))
+  -- past the end of the list stands 0, from which a difference is no further than from another
+  pub differences-apart-in : Apart step (table (differenceIn step x) n)
+  differences-apart-in k =
+      elim (decLe (suc (k + 2 * step)) n) [
+        | yes l ↦ le-trans (le-of-eq (ap₂ plainGradient (getD-table _ n k (pos 0) (omega arith)) (getD-table _ n (k + 2 * step) (pos 0) l ∙ on))) (differences-apart (h _) (h _) (h _) (h _) (h _) (h _) (h _))
+        | no l ↦ le-trans (le-of-eq (ap (plainGradient (getD (table (differenceIn step x) n) k (pos 0))) (List·getD-eq-default (table (differenceIn step x) n) (pos 0) {n = k + 2 * step} (rw (length-table (differenceIn step x) n) (omega arith))) ∙ less-0 (getD (table (differenceIn step x) n) k (pos 0)))) (differences-within k)
+      ]
+    where
+      -- two places on, of the same readings
+      on : differenceIn step x (k + 2 * step) ≡ difference false (getD x (k + 4 * step) 0) (getD x (k + 3 * step) 0) (getD x (k + 5 * step) 0) (getD x (k + 2 * step) 0) (getD x (k + 6 * step) 0)
+      on =
+          let a : k + 2 * step + 2 * step ≡ k + 4 * step = omega arith in
+          let b : k + 2 * step + step ≡ k + 3 * step = omega arith in
+          let c : k + 2 * step + 3 * step ≡ k + 5 * step = omega arith in
+          let d : k + 2 * step + 4 * step ≡ k + 6 * step = omega arith in
+          rw (a, b, c, d)
+
+      less-0 : (z : ℤ) → plainGradient z (pos 0) ≡ natAbs z
+      less-0 z = ap natAbs (eq-by (anyₚ z -ₚ natₚ 0) (anyₚ z) (omega arith))
+
+pub gradients-at-most : (step : ℕ) (d : List ℤ) (n : ℕ) → Apart step d → AllAtMost mostGradient (table (gradientIn step d) n)
+gradients-at-most step d n h = table-all (λ g. g ≤ mostGradient) (gradientIn step d) n (omega arith) (λ k _. omega (arith, h k, h (k + step), h (k + 2 * step)))
 
 -- ---- the sum of a window of gradients
 pub window-at-most : (g : List ℕ) (s q : ℕ) → AllAtMost mostGradient g → directionSum (windowIn s g q) ≤ mostSum

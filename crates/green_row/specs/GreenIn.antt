@@ -1,27 +1,21 @@
 -- Green at each column of a row, from buffers. Assumes nothing.
-use Prim.Native.Nat.{ℕ, _+_, _*_}
+use Prim.Native.Nat.{ℕ, _+_, _*_, _/_}
 use mathlib.Core.Bool.{cond}
 use mathlib.Core.List.{List, [], _∷_}
-use lib.IntN.{ℤ}
+use lib.IntN.{ℤ, pos, _+ℤ_}
 use lib.ListN.{length, getD}
+use Rattle.whole.specs.Clamp.{clamp}
 use Rattle.bayer.specs.Parity.{isOdd}
 use Rattle.gbtf.specs.declared.direction.Direction.{Direction}
 use Rattle.gbtf.specs.Direction.{total}
-use Rattle.gbtf.specs.Fusion.{green}
-use Rattle.green_row.specs.Directions.{directionIn, directionFrom}
+use Rattle.gbtf.specs.Fusion.{fused}
+use Rattle.green_row.specs.Directions.{directionIn}
 
--- green at a red or blue pixel of reading c, whose directions are D 0 to D 3
-unfoldable pub fusedBy : (K T c : ℕ) (D : ℕ → Direction) → ℕ
-fusedBy K T c D = green K T c (D 0) (D 1 ∷ D 2 ∷ D 3 ∷ [])
+-- what fusion adds, by the directions D 0 to D 3
+unfoldable pub fusedBy : (K T : ℕ) (D : ℕ → Direction) → ℤ
+fusedBy K T D = fused K T (D 0) (D 1 ∷ D 2 ∷ D 3 ∷ [])
 
--- green at column j of a row of readings x, of which column j is green where j + odd is odd; D are the directions of this column
-abbrev pub greenBy : (K T odd : ℕ) (x : List ℕ) (D : ℕ → Direction) (j : ℕ) → ℕ
-greenBy K T odd x D j = cond (isOdd (j + odd)) (16 * getD x j 0) (fusedBy K T (getD x j 0) D)
-
--- from the differences and gradients
-unfoldable pub greenIn : (K : ℕ) (ws : List ℕ) (s odd : ℕ) (x : List ℕ) (dh dv : List ℤ) (gh gv : List ℕ) (j : ℕ) → ℕ
-greenIn K ws s odd x dh dv gh gv j = greenBy K (total ws) odd x (directionIn ws s dh dv gh gv j) j
-
--- from the row's direction sums t and five-sums f
-unfoldable pub greenFrom : (K T odd : ℕ) (x t : List ℕ) (f : List ℤ) (j : ℕ) → ℕ
-greenFrom K T odd x t f j = greenBy K T odd x (directionFrom (length x) t f j) j
+-- green at column j of a row of readings x, of which column j is green where j + odd is odd, from the differences, the gradients and the direction sums along the column
+unfoldable pub greenIn : (K : ℕ) (ws : List ℕ) (s odd : ℕ) (x : List ℕ) (dh dv : List ℤ) (gh tv : List ℕ) (j : ℕ) → ℕ
+greenIn K ws s odd x dh dv gh tv j =
+    cond (isOdd (j + odd)) (16 * getD x j 0) (clamp (pos (16 * getD x j 0) +ℤ fusedBy K (total ws) (directionIn ws s ((length x + 1) / 2) dh dv gh tv j)))

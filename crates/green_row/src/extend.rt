@@ -18,7 +18,7 @@ fn copy(row: &[u16], out: &mut [u16])
 
 // Columns from - 7, from - 6, .. of a row, by the mirrors.
 fn edge(row: &[u16], from: usize, out: &mut [u16])
-    requires { ⌜ (2 ≤ length (now row)) × (length (now row) ≤ 4096) × (from + length (now out) ≤ length (now row) + 15) ⌝ }
+    requires { ⌜ (2 ≤ length (now row)) × (length (now row) ≤ 4096) × (from + length (now out) ≤ length (now row) + 14) ⌝ }
     ensures { λ _. ⌜ now (out .exit) ≡ table (λ k. column (now (row .entry)) (from + k)) (length (now (out .entry))) ⌝ }
 {
     let mut k = 0;
@@ -32,7 +32,7 @@ fn edge(row: &[u16], from: usize, out: &mut [u16])
 // Columns -7, -6, .. of a row of the continued mosaic.
 pub fn extend(row: &[u16], out: &mut [u16])
     requires { ⌜ (2 ≤ length (now row)) × (length (now row) ≤ 4096) ⌝ }
-    requires { ⌜ (length (now row) + 14 ≤ length (now out)) × (length (now out) ≤ length (now row) + 15) ⌝ }
+    requires { ⌜ length (now out) ≡ length (now row) + 14 ⌝ }
     ensures { λ _. ⌜ now (out .exit) ≡ table (column (now (row .entry))) (length (now (out .entry))) ⌝ }
 {
     let w = row.len();

@@ -1,4 +1,4 @@
-// Green of a row, from buffers of differences and gradients.
+// Green of a row, from buffers of differences, gradients and direction sums.
 pub mod along;
 pub mod directions;
 pub mod extend;

@@ -118,14 +118,14 @@ module _ {A : Type 0} (rule : ℕ → ℕ → A) (w : ℕ) where
   abbrev pub parts : ℕ → List A
   parts k = table (rule k) w
 
-  parts-length : (k : ℕ) → length (parts k) ≡ w
+  pub parts-length : (k : ℕ) → length (parts k) ≡ w
   parts-length k = length-table (rule k) w
 
   pub getD-parts : (n k j : ℕ) (d : A) → k < n → j < w → getD (joined parts n) (k * w + j) d ≡ rule k j
   getD-parts n k j d h l = getD-joined parts w parts-length n k j d h l ∙ getD-table (rule k) w j d l
 
   -- part i, from place a to place b, is handed on, and then holds what another rule gives, which agrees
-  parts-turn : (i n a b : ℕ) (d : List A) {xs ys : List A} {r : ℕ → A} → a ≡ i * w → b ≡ i * w + w → i < n → length d ≡ n * w → Handed parts w parts-length i d xs
+  pub parts-turn : (i n a b : ℕ) (d : List A) {xs ys : List A} {r : ℕ → A} → a ≡ i * w → b ≡ i * w + w → i < n → length d ≡ n * w → Handed parts w parts-length i d xs
       → ys ≡ table r (length (take (b - a) (drop a xs))) → ((j : ℕ) → r j ≡ rule i j) → Handed parts w parts-length (i + 1) d (placed a b xs ys)
   parts-turn i n a b d {xs} {ys} {r} p q h e t y s =
       let k : length (take (b - a) (drop a xs)) ≡ w = rw (q, p) (part-length (i * w) w xs (omega (arith, part-within w h, t .1))) in

@@ -26,7 +26,11 @@ use Rattle.bayer.proofs.ParityLaws.{starts-below}
 use Rattle.green_rule.specs.Greens.{greens, greenRow}
 use Rattle.fill_rows.specs.FillRow.{ownIn, otherIn}
 use Rattle.fill_rows.proofs.FillRowLaws.{own-row-is, other-row-is}
-use Rattle.strip_rows.specs.StripRows.{colourRow}
+use Rattle.strip_rows.specs.StripRows.{colourRow, ColourRoom}
+
+-- lists of the same lengths are the same room
+pub colour-room-kept : {w e p q e′ p′ q′ : ℕ} → ColourRoom w e p q → e′ ≡ e → p′ ≡ p → q′ ≡ q → ColourRoom w e′ p′ q′
+colour-room-kept r i j k = record { for-differences = rw i (r .for-differences); for-first = rw j (r .for-first); for-second = rw k (r .for-second) }
 
 -- ---- row r, as it is handed on
 abbrev handed : (w first : ℕ) (piece : List ℕ) (r : ℕ) → List ℕ
@@ -46,12 +50,15 @@ module _ (f : Frame) (first : ℕ) (piece : List ℕ) (v : ℕ) (lent : Lent f f
   handed-is {s = s} e = row-is w (s - first) piece (ap (λ n. n - first) e)
 
   -- to the row of the colour that shares the row with green
-  pub own-ready : (out : List ℕ) → length out ≡ w → AllAtMost 4095 piece
-      → (o < 2) × (2 ≤ length (handed w first piece v)) × (length (handed w first piece v) ≤ 4096) × (length g ≡ length (handed w first piece v)) × (length out ≡ length (handed w first piece v))
-      × (AllAtMost 4095 (handed w first piece v))
-  own-ready out fits small =
-      rw (handed-long v (row-inside lent))
-      (omega (arith, starts, starts-below (f .layout) v), omega (arith, lent .frame .wide), lent .frame .narrow, green-long v hg, fits, rw (handed-is {r = v} refl) (row-at-most w (v - first) piece small))
+  pub own-ready : {e p q : ℕ} (out : List ℕ) → length out ≡ w → AllAtMost 4095 piece → ColourRoom w e p q
+      → ((o < 2) × (2 ≤ length (handed w first piece v)) × (length (handed w first piece v) ≤ 4096) × (length g ≡ length (handed w first piece v)) × (length out ≡ length (handed w first piece v))
+      × (AllAtMost 4095 (handed w first piece v)))
+      × ((length (handed w first piece v) + 5 ≤ e) × (length (handed w first piece v) ≤ 2 * p) × (length (handed w first piece v) ≤ 2 * q))
+  own-ready out fits small room =
+      rw (handed-long v (row-inside lent)) (
+        (omega (arith, starts, starts-below (f .layout) v), omega (arith, lent .frame .wide), lent .frame .narrow, green-long v hg, fits, rw (handed-is {r = v} refl) (row-at-most w (v - first) piece small)),
+        (room .for-differences, room .for-first, room .for-second),
+      )
 
   pub own-done : (k : Colour) {l : List ℕ} → same k (partner (f .layout) v) ≡ true
       → l ≡ table (ownIn (length (handed w first piece v)) o (handed w first piece v) g) (length (handed w first piece v)) → l ≡ colourRow f first piece k v
@@ -63,13 +70,14 @@ module _ (f : Frame) (first : ℕ) (piece : List ℕ) (v : ℕ) (lent : Lent f f
   -- to the other one
   module _ {ra rb : ℕ} (ea : ra ≡ mirror (f .height) (subℕ v 1)) (eb : rb ≡ mirror (f .height) (subℕ (v + 1) 0)) {ga gb : List ℕ}
       (ha : ga ≡ greenRow f first piece (mirror (f .height) (pos v -ℤ pos 1))) (hb : gb ≡ greenRow f first piece (mirror (f .height) (pos v +ℤ pos 1))) where
-    pub other-ready : (out : List ℕ) → length out ≡ w
+    pub other-ready : {e p q : ℕ} (out : List ℕ) → length out ≡ w → ColourRoom w e p q
         → ((o < 2) × (2 ≤ length g) × (length g ≤ 4096) × (length out ≡ length g))
-        × ((length (handed w first piece ra) ≡ length g) × (length ga ≡ length g) × (length (handed w first piece rb) ≡ length g) × (length gb ≡ length g))
-    other-ready out fits =
+        × (((length (handed w first piece ra) ≡ length g) × (length ga ≡ length g) × (length (handed w first piece rb) ≡ length g) × (length gb ≡ length g))
+        × ((length g + 5 ≤ e) × (length g ≤ 2 * p) × (length g ≤ 2 * q)))
+    other-ready out fits room =
         rw (green-long v hg) (
           (omega (arith, starts, starts-below (f .layout) v), omega (arith, lent .frame .wide), lent .frame .narrow, fits),
-          (handed-long ra (above-inside lent ea), green-long _ ha, handed-long rb (below-inside lent eb), green-long _ hb),
+          ((handed-long ra (above-inside lent ea), green-long _ ha, handed-long rb (below-inside lent eb), green-long _ hb), (room .for-differences, room .for-first, room .for-second)),
         )
 
     pub other-done : (k : Colour) {l : List ℕ} → same k (partner (f .layout) v) ≡ false → same k Green ≡ false

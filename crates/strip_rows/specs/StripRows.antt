@@ -45,6 +45,12 @@ pub record GreensOf (f : Frame) (first : ℕ) (rows : List ℕ) (a n : ℕ) (gre
 abbrev pub amongGreens : (w a n : ℕ) (green above below : List ℕ) (v : ℕ) → List ℕ
 amongGreens w a n green above below v = cond (ltb v a) above (cond (ltb v (a + n)) (rowOf w (v - a) green) below)
 
+-- room for the colour differences of two rows, w wide, and for the two half rows of one
+pub record ColourRoom (w differences first second : ℕ) : Type 0 where
+  pub for-differences : w + 5 ≤ differences
+  pub for-first : w ≤ 2 * first
+  pub for-second : w ≤ 2 * second
+
 -- the lengths of three planes of n rows
 pub record Sized (f : Frame) (n red green blue : ℕ) : Type 0 where
   pub red-is : red ≡ n * f .width

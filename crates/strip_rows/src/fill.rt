@@ -1,5 +1,5 @@
 ghost use mathlib.Core.Path.{_≡_};
-ghost use Prim.Native.Nat.{_≤_};
+ghost use Prim.Native.Nat.{_+_, _≤_};
 ghost use lib.ListN.{length};
 ghost use Rattle.bayer.specs.Piece.{pieceStart};
 ghost use Rattle.green_blocks.specs.Room.{Room};
@@ -9,7 +9,7 @@ use crate::greens::greens;
 use bayer::frame::Frame;
 use bayer::piece::piece_start;
 
-// Rows a to a + n - 1 of the three planes, from a strip's piece. x, d, g, t and f are room to work in, above and below for the rows of green above and
+// Rows a to a + n - 1 of the three planes, from a strip's piece. x, d, g, tv, t, f, r, p and q are room to work in, above and below for the rows of green above and
 // below the strip.
 fn fill_planes_in(
     frame: Frame,
@@ -20,15 +20,19 @@ fn fill_planes_in(
     green: &mut [u16],
     blue: &mut [u16],
     x: &mut [u16],
-    d: &mut [i32],
-    g: &mut [u32],
+    d: &mut [i16],
+    g: &mut [u16],
+    tv: &mut [u32],
     t: &mut [u32],
     f: &mut [i32],
+    r: &mut [i32],
+    p: &mut [u16],
+    q: &mut [u16],
     above: &mut [u16],
     below: &mut [u16],
 )
     requires { ⌜ (Readable frame (pieceStart a) (now piece) a n) × (Sized frame n (length (now red)) (length (now green)) (length (now blue))) ⌝ }
-    requires { ⌜ (Room (frame .width) (length (now x)) (length (now d)) (length (now g)) (length (now t)) (length (now f))) × (length (now above) ≡ frame .width) × (length (now below) ≡ frame .width) ⌝ }
+    requires { ⌜ (Room (frame .width) (length (now x)) (length (now d)) (length (now g)) (length (now tv)) (length (now t)) (length (now f)) (length (now r)) (length (now p)) (length (now q))) × (length (now above) ≡ frame .width) × (length (now below) ≡ frame .width) × (frame .width + 5 ≤ length (now f)) ⌝ }
     ensures { λ _. ⌜ Filled frame a n (now (piece .entry)) (now (red .exit)) (now (green .exit)) (now (blue .exit)) ⌝ }
 {
     let start = piece_start(a);
@@ -41,13 +45,31 @@ fn fill_planes_in(
         x,
         d,
         g,
+        tv,
         t,
         f,
+        r,
+        p,
+        q,
         green,
         above,
         below,
     );
-    colour_planes(frame, start, piece, a, n, green, above, below, red, blue);
+    colour_planes(
+        frame,
+        start,
+        piece,
+        a,
+        n,
+        green,
+        above,
+        below,
+        f,
+        p,
+        q,
+        red,
+        blue,
+    );
 }
 
 // The same, in as much of the room above and below as rows of this width need.
@@ -60,15 +82,19 @@ pub fn fill_planes(
     green: &mut [u16],
     blue: &mut [u16],
     x: &mut [u16],
-    d: &mut [i32],
-    g: &mut [u32],
+    d: &mut [i16],
+    g: &mut [u16],
+    tv: &mut [u32],
     t: &mut [u32],
     f: &mut [i32],
+    r: &mut [i32],
+    p: &mut [u16],
+    q: &mut [u16],
     above: &mut [u16],
     below: &mut [u16],
 )
     requires { ⌜ (Readable frame (pieceStart a) (now piece) a n) × (Sized frame n (length (now red)) (length (now green)) (length (now blue))) ⌝ }
-    requires { ⌜ (Room (frame .width) (length (now x)) (length (now d)) (length (now g)) (length (now t)) (length (now f))) × (frame .width ≤ length (now above)) × (frame .width ≤ length (now below)) ⌝ }
+    requires { ⌜ (Room (frame .width) (length (now x)) (length (now d)) (length (now g)) (length (now tv)) (length (now t)) (length (now f)) (length (now r)) (length (now p)) (length (now q))) × (frame .width ≤ length (now above)) × (frame .width ≤ length (now below)) × (frame .width + 5 ≤ length (now f)) ⌝ }
     ensures { λ _. ⌜ Filled frame a n (now (piece .entry)) (now (red .exit)) (now (green .exit)) (now (blue .exit)) ⌝ }
 {
     let w = frame.width;
@@ -83,8 +109,12 @@ pub fn fill_planes(
         x,
         d,
         g,
+        tv,
         t,
         f,
+        r,
+        p,
+        q,
         &mut above[0..w],
         &mut below[0..w],
     );

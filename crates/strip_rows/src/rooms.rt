@@ -19,11 +19,15 @@ pub fn fill_wide(
     requires { ⌜ (Readable frame (pieceStart a) (now piece) a n) × (Sized frame n (length (now red)) (length (now green)) (length (now blue))) ⌝ }
     ensures { λ _. ⌜ Filled frame a n (now (piece .entry)) (now (red .exit)) (now (green .exit)) (now (blue .exit)) ⌝ }
 {
-    let mut x = [0u16; 65776];
-    let mut d = [0i32; 73998];
-    let mut g = [0u32; 57554];
-    let mut t = [0u32; 16384];
-    let mut f = [0i32; 16384];
+    let mut x = [0u16; 82200];
+    let mut d = [0i16; 106860];
+    let mut g = [0u16; 90420];
+    let mut tv = [0u32; 20480];
+    let mut t = [0u32; 2049];
+    let mut f = [0i32; 8192];
+    let mut r = [0i32; 2048];
+    let mut p = [0u16; 2048];
+    let mut q = [0u16; 2048];
     let mut above = [0u16; 4096];
     let mut below = [0u16; 4096];
     fill_planes(
@@ -37,8 +41,12 @@ pub fn fill_wide(
         &mut x,
         &mut d,
         &mut g,
+        &mut tv,
         &mut t,
         &mut f,
+        &mut r,
+        &mut p,
+        &mut q,
         &mut above,
         &mut below,
     );
@@ -58,11 +66,15 @@ pub fn fill_narrow(
     requires { ⌜ frame .width ≤ 1024 ⌝ }
     ensures { λ _. ⌜ Filled frame a n (now (piece .entry)) (now (red .exit)) (now (green .exit)) (now (blue .exit)) ⌝ }
 {
-    let mut x = [0u16; 16624];
-    let mut d = [0i32; 18702];
-    let mut g = [0u32; 14546];
-    let mut t = [0u32; 4096];
-    let mut f = [0i32; 4096];
+    let mut x = [0u16; 20760];
+    let mut d = [0i16; 26988];
+    let mut g = [0u16; 22836];
+    let mut tv = [0u32; 5120];
+    let mut t = [0u32; 513];
+    let mut f = [0i32; 2048];
+    let mut r = [0i32; 512];
+    let mut p = [0u16; 512];
+    let mut q = [0u16; 512];
     let mut above = [0u16; 1024];
     let mut below = [0u16; 1024];
     fill_planes(
@@ -76,8 +88,12 @@ pub fn fill_narrow(
         &mut x,
         &mut d,
         &mut g,
+        &mut tv,
         &mut t,
         &mut f,
+        &mut r,
+        &mut p,
+        &mut q,
         &mut above,
         &mut below,
     );

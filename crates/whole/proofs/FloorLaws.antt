@@ -1,16 +1,15 @@
 -- Laws of `floorDiv` and `clamp`. The floor f of z / d is the only one with f d ≤ z < (f + 1) d. Assumes nothing.
-use mathlib.Core.Path.{_≡_, refl, sym, _∙_, ap}
-use Prim.Native.Nat.{ℕ, suc, _+_, _*_, _-_, _/_, _≤_, _<_}
-use native.Mathlib.Nat.{div-add-mod', mod-lt, mul-pos, mul-le-mul-left, mul-le-mul-right, div-le-of-le-mul}
+use mathlib.Core.Path.{_≡_, refl, sym, ap}
+use Prim.Native.Nat.{ℕ, suc, _+_, _*_, _≤_, _<_}
+use native.Mathlib.Nat.{div-add-mod', mod-lt, mul-pos, mul-le-mul-left, mul-le-mul-right}
 use native.Mathlib.Decide.{decLe}
 use native.Mathlib.Omega.{arith}
-use lib.IntN.{ℤ, pos, negsuc, natAbs, _+ℤ_, _-ℤ_, _*ℤ_}
+use lib.IntN.{ℤ, pos, negsuc, _+ℤ_, _*ℤ_}
 use lib.Signed.{shrZ}
 use Rattle.whole.specs.Parts.{up, down}
 use Rattle.whole.specs.Floor.{floorDiv}
 use Rattle.whole.specs.Clamp.{clamp}
-use Rattle.whole.proofs.Pairs.{anyₚ, natₚ, _+ₚ_, _-ₚ_, _*ₚ_, eq-by, eq-of, abs-by, +ℤ-up}
-use Rattle.whole.proofs.Magnitudes.{up-le, down-le}
+use Rattle.whole.proofs.Pairs.{anyₚ, _*ₚ_, eq-by, eq-of, +ℤ-up}
 
 pub floor-low : (z : ℤ) (d : ℕ) → 0 < d → up (floorDiv z d) * d + down z ≤ up z + down (floorDiv z d) * d
 floor-low (pos n) d h = omega (arith, div-add-mod' n d)
@@ -47,26 +46,6 @@ pub floor-times : (k : ℕ) (x : ℤ) (d : ℕ) → 0 < k → 0 < d → floorDiv
 floor-times k x d hk hd =
     let p = eq-of (anyₚ (pos k *ℤ x)) (k *ₚ anyₚ x) refl in
     sym (floor-unique (pos k *ℤ x) (floorDiv x d) (k * d) (mul-pos hk hd) (omega (arith, p, mul-le-mul-left k (floor-low x d hd))) (omega (arith, p, mul-le-mul-left k (floor-high x d hd))))
-
--- how code divides, for a quotient within k: lifted by k divisors, x is a natural
-module _ (x : ℤ) (d k : ℕ) (pos-d : 0 < d) (h : natAbs x ≤ k * d) where
-  abbrev pub lifted : ℕ
-  lifted = up x + k * d - down x
-
-  pub lifted-is : x +ℤ pos (k * d) ≡ pos lifted
-  lifted-is = eq-by (anyₚ x +ₚ natₚ (k * d)) (natₚ lifted) (omega (arith, down-le x (k * d) h))
-
-  pub quotient-le : lifted / d ≤ 2 * k
-  quotient-le = div-le-of-le-mul d (omega (arith, up-le x (k * d) h))
-
-  -- and its quotient, lowered by k, is the floor
-  pub lowered-is : pos (lifted / d) -ℤ pos k ≡ floorDiv x d
-  lowered-is =
-      let e : pos (lifted / d) ≡ floorDiv x d +ℤ pos k = ap (λ z. floorDiv z d) (sym lifted-is) ∙ floor-lift x k d pos-d in
-      eq-by (natₚ (lifted / d) -ₚ natₚ k) (anyₚ (floorDiv x d)) (omega (arith, eq-of (natₚ (lifted / d)) (anyₚ (floorDiv x d) +ₚ natₚ k) e))
-
-  pub floor-within : natAbs (floorDiv x d) ≤ k
-  floor-within = omega (arith, ap natAbs lowered-is, abs-by (natₚ (lifted / d) -ₚ natₚ k), quotient-le)
 
 -- the shift that copies the sign bit, `x >> k`, rounds down
 pub shr-floor : (z : ℤ) (d : ℕ) → shrZ z d ≡ floorDiv z d

@@ -1,6 +1,5 @@
-// Whole-number arithmetic: the range of a sample, magnitudes.
+// Whole-number arithmetic: the range of a sample.
 ghost use mathlib.Core.Path.{_≡_};
-ghost use lib.IntN.{natAbs};
 ghost use Rattle.whole.specs.Clamp.{clamp};
 
 // x stopped at 0 and 65520.
@@ -14,10 +13,4 @@ pub fn clamp(x: i32) -> u16
     } else {
         x as u16
     }
-}
-
-pub fn magnitude(x: i32) -> u32
-    ensures { λ r. ⌜ r ≡ natAbs x ⌝ }
-{
-    if x < 0 { (-1 - x) as u32 + 1 } else { x as u32 }
 }

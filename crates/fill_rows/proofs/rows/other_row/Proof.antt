@@ -1,105 +1,92 @@
 -- `fill_rows::rows::other_row` meets its contract. Assumes nothing.
-use Prim.Native.Nat.{_+_, _-_, _≤_}
+use Prim.Native.Nat.{ℕ, _+_, _-_}
 use native.Mathlib.Omega.{arith}
-use mathlib.Core.Path.{_≡_}
-use lib.ListN.{length, length-set}
-use Rattle.lists.proofs.TableLaws.{Filled, table-turn}
-use Rattle.fill_rows.specs.FillRow.{otherIn}
-use Rattle.fill_rows.proofs.SideLaws.{before-inside, after-inside}
-use Rattle.fill_rows.proofs.EndLaws.{first-stored, last-stored}
+use mathlib.Core.Path.{_≡_, sym, ap, ap₂, _∙_}
+use lib.ListN.{length}
+use Rattle.lists.specs.Table.{table}
+use Rattle.fill_rows.specs.HalfFill.{pixels, otherEdged}
+use Rattle.fill_rows.proofs.HalfFillLaws.{edged-length, cut-both, made-both, pixels-others, other-mirrors}
 use Rattle.fill_rows.proofs.rows.other_row.Statement.{statement}
 use Rattle.fill_rows.proofs.rows.other_row.Tie as tie
+use borrow.Author.Needs.{needs}
 
-abbrev Inv-loop : tie.InvT-loop
-Inv-loop g xa ga xb gb odd out₀ last j₀ out j = (1 ≤ j) × (j ≤ last) × (length out₀ ≡ last + 1) × (Filled (otherIn (length g) odd g xa ga xb gb) j out₀ out)
+-- how long a list of the row above, and of the row below, is
+long : (c : tie.Start) → let w = length (c .args .g .now) in (n : ℕ) → n ≡ w → pixels n (1 - c .args .odd) + 2 ≡ w - pixels w (c .args .odd) + 2
+long c n e = ap (λ k. pixels k (1 - c .args .odd) + 2) e ∙ ap (λ k. k + 2) (pixels-others _ _ (c .pre .0 .0) (omega arith))
 
-abbrev μ-loop : tie.MeasureT-loop
-μ-loop g xa ga xb gb odd out₀ last j₀ out j = last - j
+part-other-from-end-4 : tie.Need-part-other-from-end-4
+part-other-from-end-4 c = omega arith
 
-sub-last : tie.Need-sub-last Inv-loop μ-loop
-sub-last c = omega arith
+other-from-requires : tie.Need-other-from-requires
+other-from-requires c κs =
+    let b = c .before .before .before .before .before .before .before in
+    let a = b .before .before .before in
+    let s = a .before .before .before .before .before .before .before .before .before .before in
+    let p = s .pre in
+    let w = length (s .args .g .now) in
+    let n = w - pixels w (s .args .odd) + 2 in
+    let e = made-both (1 - s .args .odd) (s .args .xa .now) (s .args .ga .now) (s .args .xb .now) (s .args .gb .now) n _ (long s (length (s .args .xa .now)) (p .1 .0 .0)) (long s (length (s .args .xb .now)) (p .1 .0 .2)) (a .edged .ensures) (b .edged2 .ensures) in
+    let la = edged-length (1 - s .args .odd) (s .args .xa .now) (s .args .ga .now) (e .0 .0) ∙ long s (length (s .args .xa .now)) (p .1 .0 .0) in
+    let lb = edged-length (1 - s .args .odd) (s .args .xb .now) (s .args .gb .now) (e .1 .0) ∙ long s (length (s .args .xb .now)) (p .1 .0 .2) in
+    let h = cut-both w (s .args .odd) (s .args .p .now) (s .args .q .now) (p .0 .0) (p .1 .1 .1) (p .1 .1 .2) in
+    let l = sym (ap (λ k. k + 2) (h .2)) in
+    ((p .0 .0, p .0 .1, p .0 .3, e .0 .1, e .1 .1), (h .0, h .1, la ∙ l, lb ∙ l))
 
-other-at-requires : tie.Need-other-at-requires Inv-loop μ-loop
-other-at-requires c κs =
-    let p = c .before .before .before .before .before .before .pre in
-    ((p .0 .0, p .0 .1, p .0 .2, omega arith), p .1)
+same-length : tie.Need-same-length
+same-length c = omega arith
 
-slice-write-out : tie.Need-slice-write-out Inv-loop μ-loop
-slice-write-out c = omega arith
-
-loop-holds : tie.Need-loop-holds Inv-loop μ-loop
-loop-holds c =
-    let d = c .before .before .before .before .before .before .before .args .out .now in
-    (omega arith, omega arith, omega (arith, length-set d 0 (c .other-at .result)), first-stored _ d (omega arith) (c .other-at .ensures))
-
-sub-other-between : tie.Need-sub-other-between Inv-loop μ-loop
-sub-other-between c = omega arith
-
-add-other-between : tie.Need-add-other-between Inv-loop μ-loop
-add-other-between c = omega arith
-
-other-between-requires : tie.Need-other-between-requires Inv-loop μ-loop
-other-between-requires c κs =
-    let p = c .before .before .before .before .before .before .before .before .before .pre in
-    let j = c .before .loop .j in
-    ((p .0 .0, p .0 .1, p .0 .2, omega arith), (p .1, (before-inside _ j (omega arith) (omega arith), after-inside _ j (omega arith))))
-
-mul-out : tie.Need-mul-out Inv-loop μ-loop
-mul-out c = omega arith
-
-slice-write-out-2 : tie.Need-slice-write-out-2 Inv-loop μ-loop
-slice-write-out-2 c = omega arith
-
-add-j : tie.Need-add-j Inv-loop μ-loop
-add-j c = omega arith
-
-loop-less : tie.Need-loop-less Inv-loop μ-loop
-loop-less c = omega arith
-
-loop-again : tie.Need-loop-again Inv-loop μ-loop
-loop-again c =
-    let l = c .before .before .loop in
-    (omega arith, omega arith, l .inv .2, table-turn _ (l .j) _ (omega arith) (l .inv .3) (c .other-between .ensures))
-
-other-at-requires-2 : tie.Need-other-at-requires-2 Inv-loop μ-loop
-other-at-requires-2 c κs =
-    let p = c .before .before .before .before .before .before .before .before .before .pre in
-    ((p .0 .0, p .0 .1, p .0 .2, omega arith), p .1)
-
-mul-out-2 : tie.Need-mul-out-2 Inv-loop μ-loop
-mul-out-2 c = omega arith
-
-slice-write-out-3 : tie.Need-slice-write-out-3 Inv-loop μ-loop
-slice-write-out-3 c = omega arith
-
-same-length : tie.Need-same-length Inv-loop μ-loop
-same-length c = omega (arith, length-set (c .before .before .loop .out) (length (c .before .before .before .before .before .before .before .before .before .before .args .out .now) - 1) (c .other-at2 .result))
-
-returns : tie.Need-returns Inv-loop μ-loop
+returns : tie.Need-returns
 returns c =
-    let l = c .before .before .loop in
-    last-stored _ _ _ (l .j) _ (omega arith) (omega arith) (omega arith) (omega arith) (l .inv .3) (c .other-at2 .ensures)
+    let r = c .before .before .before .before .before .before in
+    let b = r .before .before .before .before .before .before .before .before in
+    let a = b .before .before .before in
+    let s = a .before .before .before .before .before .before .before .before .before .before in
+    let p = s .pre in
+    let g = s .args .g .now in
+    let w = length g in
+    let n = w - pixels w (s .args .odd) + 2 in
+    let e = made-both (1 - s .args .odd) (s .args .xa .now) (s .args .ga .now) (s .args .xb .now) (s .args .gb .now) n _ (long s (length (s .args .xa .now)) (p .1 .0 .0)) (long s (length (s .args .xb .now)) (p .1 .0 .2)) (a .edged .ensures) (b .edged2 .ensures) in
+    r .other-from .ensures
+    ∙ ap₂ (λ u d. table (otherEdged (s .args .odd) g u d) w) (e .0 .0) (e .1 .0)
+    ∙ other-mirrors (s .args .odd) g (p .0 .0) (s .args .xa .now) (s .args .ga .now) (s .args .xb .now) (s .args .gb .now) (p .0 .1) (p .1 .0 .0) (p .1 .0 .2)
 
+-- what else is asked is found
 pub other-row-spec : {M : Type 1} → statement M
 other-row-spec =
     tie.close
     (tie.spec
-    Inv-loop
-    μ-loop
-    sub-last
-    other-at-requires
-    slice-write-out
-    loop-holds
-    sub-other-between
-    add-other-between
-    other-between-requires
-    mul-out
-    slice-write-out-2
-    add-j
-    loop-less
-    loop-again
-    other-at-requires-2
-    mul-out-2
-    slice-write-out-3
+    (λ c. search needs)
+    (λ c. search needs)
+    (λ c. search needs)
+    (λ c. search needs)
+    (λ c. search needs)
+    (λ c. search needs)
+    (λ c. search needs)
+    (λ c. search needs)
+    (λ c. search needs)
+    (λ c κs. search needs)
+    (λ c. search needs)
+    (λ c. search needs)
+    (λ c. search needs)
+    (λ c. search needs)
+    (λ c. search needs)
+    (λ c κs. search needs)
+    (λ c. search needs)
+    (λ c. search needs)
+    (λ c. search needs)
+    (λ c. search needs)
+    (λ c. search needs)
+    (λ c. search needs)
+    (λ c. search needs)
+    (λ c. search needs)
+    (λ c. search needs)
+    (λ c. search needs)
+    (λ c. search needs)
+    (λ c. search needs)
+    part-other-from-end-4
+    other-from-requires
     same-length
+    (λ c. search needs)
+    (λ c. search needs)
+    (λ c. search needs)
     returns)

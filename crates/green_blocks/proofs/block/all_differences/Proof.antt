@@ -1,8 +1,9 @@
 -- `green_blocks::block::all_differences` meets its contract: one part is the differences along the rows, the other those along the columns. Assumes nothing.
-use Prim.Native.Nat.{_+_, _-_, _*_}
+use Prim.Native.Nat.{_+_, _-_, _*_, _≤_}
 use native.Mathlib.Omega.{arith}
 use mathlib.Core.Path.{_≡_, refl, ap}
 use Rattle.lists.specs.Part.{part}
+use Rattle.lists.proofs.BoundLaws.{all-part}
 use Rattle.lists.proofs.JoinedLaws.{two-tables}
 use Rattle.green_row.specs.AlongAxis.{differenceIn}
 use Rattle.green_blocks.proofs.block.all_differences.Statement.{statement}
@@ -51,16 +52,15 @@ part-differences-end-2 : tie.Need-part-differences-end-2
 part-differences-end-2 c = omega arith
 
 differences-requires : tie.Need-differences-requires
-differences-requires c κs = omega arith
+differences-requires c κs =
+    let q = c .before .before .before in
+    (omega arith, all-part (λ n. n ≤ 4095) 0 (omega arith) (5 * q .args .s - 2) (q .args .m + 7 * q .args .s + 2 - (5 * q .args .s - 2)) (q .args .x .now) (q .pre .5))
 
 sub-differences-3 : tie.Need-sub-differences-3
 sub-differences-3 c = omega arith
 
 mul-differences-2 : tie.Need-mul-differences-2
 mul-differences-2 c = omega arith
-
-sub-differences-4 : tie.Need-sub-differences-4
-sub-differences-4 c = omega arith
 
 part-differences-start-3 : tie.Need-part-differences-start-3
 part-differences-start-3 c = omega arith
@@ -69,7 +69,7 @@ part-differences-end-3 : tie.Need-part-differences-end-3
 part-differences-end-3 c = omega arith
 
 differences-requires-2 : tie.Need-differences-requires-2
-differences-requires-2 c κs = omega arith
+differences-requires-2 c κs = let q = c .before .before .before .before .before .before in (omega arith, q .pre .5)
 
 same-length : tie.Need-same-length
 same-length c = omega arith
@@ -80,7 +80,7 @@ returns c =
     let e₁ = e₂ .before .before .before in
     let a = e₁ .before .before .before .before .args in
     let k : a .m + 7 * a .s + 2 - (5 * a .s - 2) ≡ a .m + 2 * a .s + 4 = omega arith in
-    two-tables (a .m + 2 * a .s) (a .m + 8 * a .s) _ (ap (λ n. differenceIn 1 (a .odd) (part (5 * a .s - 2) n (a .x .now))) k) refl (omega arith) (omega arith) (e₁ .differences .ensures) (e₂ .differences2 .ensures)
+    two-tables (a .m + 2 * a .s) (a .m + 8 * a .s) _ (ap (λ n. differenceIn 1 (part (5 * a .s - 2) n (a .x .now))) k) refl (omega arith) (omega arith) (e₁ .differences .ensures) (e₂ .differences2 .ensures)
 
 pub all-differences-spec : {M : Type 1} → statement M
 all-differences-spec =
@@ -101,9 +101,8 @@ all-differences-spec =
     part-differences-start-2
     part-differences-end-2
     differences-requires
-    sub-differences-3
     mul-differences-2
-    sub-differences-4
+    sub-differences-3
     part-differences-start-3
     part-differences-end-3
     differences-requires-2

@@ -1,14 +1,10 @@
 -- `green_blocks::block::all_gradients` meets its contract: one part is the gradients along the rows, the other those along the columns. Assumes nothing.
-use Prim.Native.Nat.{ℕ, _+_, _-_, _*_, _≤_}
+use Prim.Native.Nat.{_+_, _-_, _*_}
 use native.Mathlib.Omega.{arith}
 use mathlib.Core.Path.{_≡_, ap}
-use lib.IntN.{pos, natAbs}
 use lib.ListN.{length}
 use Rattle.lists.specs.Part.{part}
-use Rattle.lists.specs.Bound.{AllWithin}
 use Rattle.lists.proofs.JoinedLaws.{two-tables}
-use Rattle.lists.proofs.BoundLaws.{all-part}
-use Rattle.gbtf.specs.Bounds.{mostDifference}
 use Rattle.green_row.specs.AlongAxis.{gradientIn}
 use Rattle.green_blocks.proofs.block.all_gradients.Statement.{statement}
 use Rattle.green_blocks.proofs.block.all_gradients.Tie as tie
@@ -40,12 +36,11 @@ part-gradients-start-2 c = omega arith
 part-gradients-end-2 : tie.Need-part-gradients-end-2
 part-gradients-end-2 c = omega arith
 
--- a part of the differences
-within : (q : tie.Start) (a n : ℕ) → AllWithin mostDifference (part a n (q .args .d .now))
-within q a n = all-part (λ d. natAbs d ≤ mostDifference) (pos 0) (omega arith) a n (q .args .d .now) (q .pre .1)
-
 gradients-requires : tie.Need-gradients-requires
-gradients-requires c κs = let q = c .before .before .before in (omega arith, within q 0 (q .args .m + 2 * q .args .s - 0))
+gradients-requires c κs =
+    let q = c .before .before .before in
+    let h : q .args .m + 2 * q .args .s - 0 ≡ q .args .m + 2 * q .args .s = omega arith in
+    (omega arith, rw h (q .pre .1 .0))
 
 mul-gradients : tie.Need-mul-gradients
 mul-gradients c = omega arith
@@ -74,7 +69,8 @@ part-gradients-end-4 c = omega arith
 gradients-requires-2 : tie.Need-gradients-requires-2
 gradients-requires-2 c κs =
     let q = c .before .before .before .before .before .before .before .before in
-    (omega arith, within q (q .args .m + 2 * q .args .s) (length (q .args .d .now) - (q .args .m + 2 * q .args .s)))
+    let k : length (q .args .d .now) - (q .args .m + 2 * q .args .s) ≡ q .args .m + 8 * q .args .s = omega arith in
+    (omega arith, rw k (q .pre .1 .1))
 
 same-length : tie.Need-same-length
 same-length c = omega arith

@@ -46,7 +46,7 @@ writes c = part-within (c .before .before .before .before .args .s) (c .loop-tes
 size : (c : tie.In-loop Inv-loop μ-loop) → let a = c .before .before .before .before .args in (a .b + 12) * a .s ≡ a .b * a .s + 12 * a .s
 size c = add-mul _ 12 _
 
-few : (c : tie.In-loop Inv-loop μ-loop) → let a = c .before .before .before .before .args in a .b * a .s ≤ 4 * a .s
+few : (c : tie.In-loop Inv-loop μ-loop) → let a = c .before .before .before .before .args in a .b * a .s ≤ 8 * a .s
 few c = mul-le-mul-right _ (c .before .before .before .before .pre .0 .2)
 
 add-rows : tie.Need-add-rows Inv-loop μ-loop

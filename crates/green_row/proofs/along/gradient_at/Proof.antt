@@ -1,4 +1,4 @@
--- `green_row::along::gradient_at` meets its contract: the sum of three, each at most 32760, does not wrap. Assumes nothing.
+-- `green_row::along::gradient_at` meets its contract: the sum of three, each at most 16380, does not wrap. Assumes nothing.
 use native.Mathlib.Omega.{arith}
 use Rattle.green_row.proofs.along.gradient_at.Statement.{statement}
 use Rattle.green_row.proofs.along.gradient_at.Tie as tie

@@ -1,9 +1,9 @@
 -- `green_row::directions::fives_after` meets its contract. Assumes nothing.
 use mathlib.Core.Path.{sym, ap, _∙_}
-use Prim.Native.Nat.{_+_}
+use Prim.Native.Nat.{_+_, _*_}
 use borrow.Author.Needs.{needs}
 use Rattle.lists.proofs.TableLaws.{table-same}
-use Rattle.gbtf.specs.Direction.{fiveSum}
+use Rattle.gbtf.specs.Direction.{alternating, fiveSum}
 use Rattle.gbtf.specs.Weights.{weightsOf}
 use Rattle.gbtf.proofs.WeightLaws.{tapered-unless-0}
 use Rattle.green_row.specs.Directions.{after}
@@ -25,7 +25,7 @@ returns c =
     let w = f .before .before in
     let t = w .before in
     let a = t .before .args in
-    f .fives .ensures ∙ table-same _ _ _ (λ k _. ap (λ ws. fiveSum ws (after (a .step) (a .d .now) (a .at + k))) (w .weights-of .ensures .0 ∙ sym (ap weightsOf (t .if1 .taken))))
+    f .fives .ensures ∙ table-same _ _ _ (λ k _. ap (λ ws. fiveSum ws (alternating (after (a .step) (a .d .now) (a .at + 2 * k)))) (w .weights-of .ensures .0 ∙ sym (ap weightsOf (t .if1 .taken))))
 
 weights-of-requires-2 : tie.Need-weights-of-requires-2
 weights-of-requires-2 c κs = search needs
@@ -42,7 +42,7 @@ returns-2 c =
     let w = f .before .before in
     let t = w .before in
     let a = t .before .args in
-    f .fives2 .ensures ∙ table-same _ _ _ (λ k _. ap (λ ws. fiveSum ws (after (a .step) (a .d .now) (a .at + k))) (w .weights-of2 .ensures .0 ∙ sym (tapered-unless-0 _ (t .if1 .left))))
+    f .fives2 .ensures ∙ table-same _ _ _ (λ k _. ap (λ ws. fiveSum ws (alternating (after (a .step) (a .d .now) (a .at + 2 * k)))) (w .weights-of2 .ensures .0 ∙ sym (tapered-unless-0 _ (t .if1 .left))))
 
 pub fives-after-spec : {M : Type 1} → statement M
 fives-after-spec =

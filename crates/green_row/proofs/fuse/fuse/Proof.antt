@@ -1,86 +1,123 @@
--- `green_row::fuse::fuse` meets its contract: what is worked out from the sums that the two passes leave is green. Assumes nothing.
+-- `green_row::fuse::fuse` meets its contract: what its calls leave is what green of the row is worked out from. Assumes nothing.
+use Prim.Native.Nat.{ℕ, _+_, _-_, _*_, _/_, _≤_, _<_}
+use native.Mathlib.Nat.{le-trans, le-of-eq}
 use native.Mathlib.Omega.{arith}
-use mathlib.Core.Path.{_≡_, _∙_, ap}
-use borrow.Author.Needs.{needs}
+use mathlib.Core.List.{List}
+use mathlib.Core.Path.{_≡_, sym, _∙_, ap}
+use lib.IntN.{ℤ, natAbs}
 use lib.ListN.{length}
+use borrow.Author.Needs.{needs}
+use Rattle.lists.specs.Table.{table}
+use Rattle.lists.specs.Bound.{AllAtMost, AllWithin}
+use Rattle.gbtf.specs.Bounds.{mostSum}
 use Rattle.gbtf.specs.Direction.{total}
 use Rattle.gbtf.specs.Weights.{scale, weightsOf}
-use Rattle.green_row.proofs.DirectionLaws.{row-from-sums, sums-at-most, fives-fit}
+use Rattle.green_row.proofs.DirectionLaws.{sums, fives, sums-fit, fives-fit, added-fit, row-from-sums}
 use Rattle.green_row.proofs.fuse.fuse.Statement.{statement}
 use Rattle.green_row.proofs.fuse.fuse.Tie as tie
 
--- before the two passes, after each, and with the weights and their total
-abbrev weighed : tie.After-total → tie.After-weights-of
-weighed c = c .before
+-- the entry, and what the calls come after
+abbrev start : tie.After-sums → tie.Start
+start c = c .before .before .before .before .before .before .before .before .before
 
-abbrev fives : tie.After-total → tie.After-row-fives
-fives c = weighed c .before .before
+abbrev summed : tie.After-row-fives → tie.After-sums
+summed c = c .before .before .before .before
 
-abbrev sums : tie.After-total → tie.After-row-sums
-sums c = fives c .before .before .before .before
+abbrev fived : tie.After-weights-of → tie.After-row-fives
+fived c = c .before .before
 
-abbrev start : tie.After-total → tie.Start
-start c = sums c .before .before .before .before .before .before .before
+-- what fusion is handed
+module _ (c : tie.After-total) where
+  abbrev w : tie.After-weights-of
+  w = c .before
 
-total-is : (c : tie.After-total) → c .total .result ≡ total (weightsOf (start c .args .smoothing))
-total-is c = c .total .ensures ∙ ap total (weighed c .weights-of .ensures .0)
+  abbrev v : tie.After-row-fives
+  v = fived w
 
-row-sums-requires : tie.Need-row-sums-requires
-row-sums-requires c κs = search needs
+  abbrev k : tie.Start
+  k = start (summed v)
 
-row-fives-requires : tie.Need-row-fives-requires
-row-fives-requires c κs = search needs
+  abbrev n : ℕ
+  n = length (k .args .r .now)
 
-weights-of-requires : tie.Need-weights-of-requires
-weights-of-requires c κs = search needs
+  abbrev ws : List ℕ
+  ws = weightsOf (k .args .smoothing)
 
-total-requires : tie.Need-total-requires
-total-requires c κs = search needs
+  weighs : c .total .result ≡ total ws
+  weighs = c .total .ensures ∙ ap total (w .weights-of .ensures .0)
+
+  some : (0 < total ws) × (total ws ≤ 100)
+  some = rw (w .weights-of .ensures .0) at (w .weights-of .ensures .1)
+
+  abbrev t : List ℕ
+  t = summed v .sums .last .1 .1 .1 .0
+
+  abbrev f : List ℤ
+  f = v .row-fives .last .1 .1 .1 .1 .1 .1 .0
+
+  t-is : t ≡ sums ws (k .args .s) (k .args .odd) n (k .args .dh .now) (k .args .dv .now) (k .args .gh .now)
+  t-is = summed v .sums .ensures ∙ ap (table _) (k .pre .1 .1 .1 .1)
+
+  f-is : f ≡ fives ws (k .args .s) (k .args .odd) n (k .args .dh .now) (k .args .dv .now) (k .args .gh .now)
+  f-is = v .row-fives .ensures
+
+  t-fits : (length t ≡ n + 1) × (AllAtMost mostSum t)
+  t-fits = sums-fit ws (k .args .s) (k .args .odd) n (k .args .dh .now) (k .args .dv .now) (k .args .gh .now) t-is (k .pre .1 .1 .0 .2)
+
+  f-fits : (length f ≡ 4 * n) × (AllWithin (32767 * c .total .result) f)
+  f-fits = fives-fit ws (k .args .s) (k .args .odd) n (k .args .dh .now) (k .args .dv .now) (k .args .gh .now) weighs f-is (k .pre .1 .1 .0 .0) (k .pre .1 .1 .0 .1)
+
+  narrow : let h = (length (k .args .x .now) + 1) / 2 in (n ≤ h) × (h ≤ 4096) × (0 < c .total .result) × (c .total .result ≤ 100)
+  narrow = omega (arith, weighs, some, k .pre)
 
 fuse-row-requires : tie.Need-fuse-row-requires
 fuse-row-requires c κs =
-    let e = c .before .before .before in
-    let k = start e in
-    let a = k .args in
-    let h = k .pre .0 in
-    let p = k .pre .1 .1 .0 in
-    let w = weighed e .weights-of .ensures in (
-      (h .0, h .1, h .2, omega (arith, e .total .ensures, w .1), omega (arith, e .total .ensures, w .1)),
-      (
-        omega arith,
-        omega arith,
-        rw (sums e .row-sums .ensures) (sums-at-most (a .s) (length (a .x .now)) (a .gh .now) (a .gv .now) (p .2) (p .3)),
-        rw (fives e .row-fives .ensures) (fives-fit (weightsOf (a .smoothing)) (a .s) (length (a .x .now)) (a .dh .now) (a .dv .now) (omega (arith, ap total (w .0), w .1)) (p .0) (p .1)),
-      ),
-    )
+    let d = c .before .before .before in
+    let h = narrow d in
+    ((h .0, h .1, t-fits d .0, k d .pre .1 .0 .5, f-fits d .0, h .2, h .3), (t-fits d .1, k d .pre .1 .1 .0 .3, f-fits d .1))
 
-same-length : tie.Need-same-length
-same-length c = search needs
+abbrev weighed : tie.After-fuse-row → tie.After-total
+weighed c = c .before .before .before .before
 
-same-length-2 : tie.Need-same-length-2
-same-length-2 c = search needs
-
-same-length-3 : tie.Need-same-length-3
-same-length-3 c = search needs
+green-row-requires : tie.Need-green-row-requires
+green-row-requires c κs =
+    let r = c .before .before .before .before .before in
+    let d = weighed r in
+    let a = k d .args in
+    let q = k d .pre in
+    let b = q .1 .1 .0 in
+    let l = q .1 .1 .1 in
+    let w : length (a .x .now) ≤ 4096 = omega (arith, q) in
+    let p : length (a .p .now) ≡ (length (a .x .now) + 1 - a .odd) / 2 = l .3 ∙ l .0 in
+    let m = added-fit scale (ws d) (a .s) (a .odd) (a .x .now) (a .dh .now) (a .dv .now) (a .gh .now) (a .tv .now) (q .0 .0) (n d) (weighs d) (t-is d) (f-is d) (r .fuse-row .ensures) (some d .0) (b .0) (b .1) (b .2) (b .3) in
+    ((q .0 .0, q .0 .1, q .0 .2, w, q .0 .3), (p, l .4, m .0 ∙ sym (l .3), m .1))
 
 returns : tie.Need-returns
 returns c =
-    let e = c .before .before .before .before .before .before in
-    let k = start e in
-    let a = k .args in
-    c .before .before .fuse-row .ensures
-    ∙ row-from-sums scale (weightsOf (a .smoothing)) (a .s) (a .odd) (a .x .now) (a .dh .now) (a .dv .now) (a .gh .now) (a .gv .now) _ (k .pre .0 .2) (total-is e) (sums e .row-sums .ensures) (fives e .row-fives .ensures)
+    let g = c .before .before .before .before .before .before in
+    let r = g .before .before .before .before .before .before in
+    let d = weighed r in
+    let a = k d .args in
+    g .green-row .ensures
+    ∙ row-from-sums scale (ws d) (a .s) (a .odd) (a .x .now) (a .dh .now) (a .dv .now) (a .gh .now) (a .tv .now) (k d .pre .0 .0) (k d .pre .1 .1 .1 .0) (weighs d) (t-is d) (f-is d) (r .fuse-row .ensures)
 
+-- what the other calls ask is found
 pub fuse-spec : {M : Type 1} → statement M
 fuse-spec =
     tie.close
     (tie.spec
-    row-sums-requires
-    row-fives-requires
-    weights-of-requires
-    total-requires
+    (λ c. search needs)
+    (λ c. search needs)
+    (λ c κs. search needs)
+    (λ c κs. search needs)
+    (λ c κs. search needs)
+    (λ c κs. search needs)
     fuse-row-requires
-    same-length
-    same-length-2
-    same-length-3
+    green-row-requires
+    (λ c. search needs)
+    (λ c. search needs)
+    (λ c. search needs)
+    (λ c. search needs)
+    (λ c. search needs)
+    (λ c. search needs)
     returns)

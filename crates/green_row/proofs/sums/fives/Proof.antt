@@ -1,18 +1,18 @@
 -- `green_row::sums::fives` meets its contract. Assumes nothing.
-use Prim.Native.Nat.{_+_, _-_, _≤_}
+use Prim.Native.Nat.{_+_, _-_, _*_, _≤_}
 use native.Mathlib.Omega.{arith}
 use mathlib.Core.Path.{refl, _∙_}
 use lib.ListN.{length}
 use mir.Syntax.{w32}
 use Rattle.whole.proofs.Signed.{read-result}
 use Rattle.lists.proofs.TableLaws.{Filled, table-none, table-turn, table-done}
-use Rattle.gbtf.specs.Direction.{fiveSum}
+use Rattle.gbtf.specs.Direction.{alternating, fiveSum}
 use Rattle.green_row.specs.Directions.{after}
 use Rattle.green_row.proofs.sums.fives.Statement.{statement}
 use Rattle.green_row.proofs.sums.fives.Tie as tie
 
 abbrev Inv-loop : tie.InvT-loop
-Inv-loop weights d step at out₀ k₀ out k = (k ≤ length out₀) × Filled (λ i. fiveSum weights (after step d (at + i))) k out₀ out
+Inv-loop weights d step at out₀ k₀ out k = (k ≤ length out₀) × Filled (λ i. fiveSum weights (alternating (after step d (at + 2 * i)))) k out₀ out
 
 abbrev μ-loop : tie.MeasureT-loop
 μ-loop weights d step at out₀ k₀ out k = length out₀ - k
@@ -20,16 +20,17 @@ abbrev μ-loop : tie.MeasureT-loop
 loop-holds : tie.Need-loop-holds Inv-loop μ-loop
 loop-holds c = (omega arith, (table-none _ _, refl))
 
+mul-five-at : tie.Need-mul-five-at Inv-loop μ-loop
+mul-five-at c = omega arith
+
 add-five-at : tie.Need-add-five-at Inv-loop μ-loop
 add-five-at c = omega arith
 
 five-at-requires : tie.Need-five-at-requires Inv-loop μ-loop
-five-at-requires c κs =
-    let p = c .before .before .pre in
-    (omega arith, p .1)
+five-at-requires c κs = omega arith
 
-mul-t10 : tie.Need-mul-t10 Inv-loop μ-loop
-mul-t10 c = omega arith
+mul-t11 : tie.Need-mul-t11 Inv-loop μ-loop
+mul-t11 c = omega arith
 
 slice-set-from-out : tie.Need-slice-set-from-out Inv-loop μ-loop
 slice-set-from-out c = omega arith
@@ -60,9 +61,10 @@ fives-spec =
     Inv-loop
     μ-loop
     loop-holds
+    mul-five-at
     add-five-at
     five-at-requires
-    mul-t10
+    mul-t11
     slice-set-from-out
     add-k
     loop-less

@@ -1,24 +1,25 @@
 -- `green_row::sums::sums` meets its contract. Assumes nothing.
-use Prim.Native.Nat.{_+_, _-_, _≤_}
-use native.Mathlib.Nat.{le-trans, le-of-eq}
+use Prim.Native.Nat.{_+_, _-_, _*_, _≤_}
 use native.Mathlib.Omega.{arith}
 use mathlib.Core.Path.{refl, ap, _∙_}
 use lib.ListN.{length}
 use Rattle.lists.proofs.TableLaws.{Filled, table-none, table-turn, table-done}
 use Rattle.gbtf.specs.Direction.{directionSum}
 use Rattle.green_row.specs.Directions.{windowIn}
-use Rattle.green_row.proofs.BufferBounds.{window-at-most}
 use Rattle.green_row.proofs.sums.sums.Statement.{statement}
 use Rattle.green_row.proofs.sums.sums.Tie as tie
 
 abbrev Inv-loop : tie.InvT-loop
-Inv-loop g s at out₀ k₀ out k = (k ≤ length out₀) × Filled (λ i. directionSum (windowIn s g (at + i))) k out₀ out
+Inv-loop g s at out₀ k₀ out k = (k ≤ length out₀) × Filled (λ i. directionSum (windowIn s g (at + 2 * i))) k out₀ out
 
 abbrev μ-loop : tie.MeasureT-loop
 μ-loop g s at out₀ k₀ out k = length out₀ - k
 
 loop-holds : tie.Need-loop-holds Inv-loop μ-loop
 loop-holds c = (omega arith, (table-none _ _, refl))
+
+mul-window : tie.Need-mul-window Inv-loop μ-loop
+mul-window c = omega arith
 
 add-window : tie.Need-add-window Inv-loop μ-loop
 add-window c = omega arith
@@ -28,13 +29,6 @@ window-requires c κs = omega arith
 
 direction-sum-requires : tie.Need-direction-sum-requires Inv-loop μ-loop
 direction-sum-requires c κs = tt
-
-cast-out : tie.Need-cast-out Inv-loop μ-loop
-cast-out c =
-    let start = c .before .before .before .before .before .before in
-    let a = start .args in
-    let q = a .at + c .before .before .before .loop .k in
-    omega (arith, le-trans (le-of-eq (c .direction-sum .ensures ∙ ap directionSum (c .before .window .ensures))) (window-at-most (a .g .now) (a .s) q (start .pre .1)))
 
 mul-out : tie.Need-mul-out Inv-loop μ-loop
 mul-out c = omega arith
@@ -68,10 +62,10 @@ sums-spec =
     Inv-loop
     μ-loop
     loop-holds
+    mul-window
     add-window
     window-requires
     direction-sum-requires
-    cast-out
     mul-out
     slice-write-out
     add-k

@@ -7,20 +7,12 @@ use Rattle.bayer.proofs.LentLaws.{row-inside, Inside, above-inside, below-insid
 use Rattle.strip_rows.proofs.ColourRow.{own-ready, own-done, other-ready, other-done}
 use Rattle.strip_rows.proofs.colours.colour_row.Statement.{statement}
 use Rattle.strip_rows.proofs.colours.colour_row.Tie as tie
-
-starts-green-requires : tie.Need-starts-green-requires
-starts-green-requires c κs = tt
-
-partner-requires : tie.Need-partner-requires
-partner-requires c κs = tt
-
-same-colour-requires : tie.Need-same-colour-requires
-same-colour-requires c κs = tt
+use borrow.Author.Needs.{needs}
 
 -- what is known when the way is chosen
 module _ (c : tie.After-same-colour) where
   abbrev start : tie.Start
-  start = c .before .before .before .before .before .before .before .before
+  start = c .before .before .before .before .before .before .before .before .before .before
 
   whether : same (start .args .k) (partner (start .args .frame .layout) (start .args .v)) ≡ c .same-colour .result
   whether = sym (c .same-colour .ensures ∙ ap (same (start .args .k)) (c .before .partner .ensures))
@@ -39,37 +31,25 @@ add-end c = omega (arith, row-inside (start (c .before) .pre .0 .0) .1)
 mul-own-row : tie.Need-mul-own-row
 mul-own-row c = omega (arith, row-inside (start (c .before) .pre .0 .0) .1)
 
-sub-own-row : tie.Need-sub-own-row
-sub-own-row c = omega arith
-
-part-own-row-start : tie.Need-part-own-row-start
-part-own-row-start c = omega arith
-
 part-own-row-end : tie.Need-part-own-row-end
 part-own-row-end c = omega (arith, row-inside (start (c .before) .pre .0 .0) .1)
 
 own-row-requires : tie.Need-own-row-requires
 own-row-requires c κs =
-    let k = c .before .before .before in
+    let k = c .before .before .before .before .before .before in
     let s = start k in
-    own-ready (s .args .frame) (s .args .start) (s .args .piece .now) (s .args .v) (s .pre .0 .0) (k .before .before .starts-green .ensures) (s .pre .1 .0) (s .args .out .now) (s .pre .1 .3) (s .pre .0 .1)
-
-same-length : tie.Need-same-length
-same-length c = omega arith
+    own-ready (s .args .frame) (s .args .start) (s .args .piece .now) (s .args .v) (s .pre .0 .0) (k .before .before .starts-green .ensures) (s .pre .1 .0 .0) (s .args .out .now) (s .pre .1 .0 .3) (s .pre .0 .1) (s .pre .1 .1)
 
 returns : tie.Need-returns
 returns c =
-    let r = c .before .before in
-    let t = r .before .before .before in
+    let r = c .before .before .before .before .before .before .before in
+    let t = r .before .before .before .before .before .before in
     let k = t .before in
     let s = start k in
-    own-done (s .args .frame) (s .args .start) (s .args .piece .now) (s .args .v) (s .pre .0 .0) (k .before .before .starts-green .ensures) (s .pre .1 .0) (s .args .k)
+    own-done (s .args .frame) (s .args .start) (s .args .piece .now) (s .args .v) (s .pre .0 .0) (k .before .before .starts-green .ensures) (s .pre .1 .0 .0) (s .args .k)
     (whether k ∙ t .if1 .taken) (r .own-row .ensures)
 
 -- ---- the other one
-
-mirror-requires : tie.Need-mirror-requires
-mirror-requires c κs = tt
 
 -- the rows that are read lie in the piece
 above : (c : tie.After-mirror) → let a = start (c .before .before) .args in Inside (a .frame) (a .start) (length (a .piece .now)) (c .mirror .result)
@@ -87,12 +67,6 @@ mul-a c = omega (arith, above c .1)
 add-a-end : tie.Need-add-a-end
 add-a-end c = omega (arith, above c .1)
 
-add-mirror : tie.Need-add-mirror
-add-mirror c = let l = start (c .before .before) .pre .0 .0 in omega (arith, l .row, l .frame .low)
-
-mirror-requires-2 : tie.Need-mirror-requires-2
-mirror-requires-2 c κs = tt
-
 sub-b : tie.Need-sub-b
 sub-b c = below c .0
 
@@ -105,82 +79,74 @@ add-b-end c = omega (arith, below c .1)
 mul-other-row : tie.Need-mul-other-row
 mul-other-row c = omega (arith, above (c .before) .1)
 
-sub-other-row : tie.Need-sub-other-row
-sub-other-row c = omega arith
-
-part-other-row-start : tie.Need-part-other-row-start
-part-other-row-start c = omega arith
-
 part-other-row-end : tie.Need-part-other-row-end
 part-other-row-end c = omega (arith, above (c .before) .1)
 
 mul-other-row-2 : tie.Need-mul-other-row-2
 mul-other-row-2 c = omega (arith, below (c .before) .1)
 
-sub-other-row-2 : tie.Need-sub-other-row-2
-sub-other-row-2 c = omega arith
-
-part-other-row-start-2 : tie.Need-part-other-row-start-2
-part-other-row-start-2 c = omega arith
-
 part-other-row-end-2 : tie.Need-part-other-row-end-2
 part-other-row-end-2 c = omega (arith, below (c .before) .1)
 
 other-row-requires : tie.Need-other-row-requires
 other-row-requires c κs =
-    let b = c .before .before .before in
+    let b = c .before .before .before .before .before .before in
     let k = b .before .before .before in
     let s = start k in
-    other-ready (s .args .frame) (s .args .start) (s .args .piece .now) (s .args .v) (s .pre .0 .0) (k .before .before .starts-green .ensures) (s .pre .1 .0)
-    (b .before .mirror .ensures) (b .mirror2 .ensures) (s .pre .1 .1) (s .pre .1 .2) (s .args .out .now) (s .pre .1 .3)
-
-same-length-2 : tie.Need-same-length-2
-same-length-2 c = omega arith
+    other-ready (s .args .frame) (s .args .start) (s .args .piece .now) (s .args .v) (s .pre .0 .0) (k .before .before .starts-green .ensures) (s .pre .1 .0 .0)
+    (b .before .mirror .ensures) (b .mirror2 .ensures) (s .pre .1 .0 .1) (s .pre .1 .0 .2) (s .args .out .now) (s .pre .1 .0 .3) (s .pre .1 .1)
 
 returns-2 : tie.Need-returns-2
 returns-2 c =
-    let r = c .before .before in
-    let b = r .before .before .before .before in
+    let r = c .before .before .before .before .before .before .before in
+    let b = r .before .before .before .before .before .before .before in
     let e = b .before .before in
     let k = e .before in
     let s = start k in
-    other-done (s .args .frame) (s .args .start) (s .args .piece .now) (s .args .v) (s .pre .0 .0) (k .before .before .starts-green .ensures) (s .pre .1 .0)
-    (b .before .mirror .ensures) (b .mirror2 .ensures) (s .pre .1 .1) (s .pre .1 .2) (s .args .k) (whether k ∙ e .if1 .left) (s .pre .0 .2) (r .other-row .ensures)
+    other-done (s .args .frame) (s .args .start) (s .args .piece .now) (s .args .v) (s .pre .0 .0) (k .before .before .starts-green .ensures) (s .pre .1 .0 .0)
+    (b .before .mirror .ensures) (b .mirror2 .ensures) (s .pre .1 .0 .1) (s .pre .1 .0 .2) (s .args .k) (whether k ∙ e .if1 .left) (s .pre .0 .2) (r .other-row .ensures)
 
+-- what else is asked is found
 pub colour-row-spec : {M : Type 1} → statement M
 colour-row-spec =
     tie.close
     (tie.spec
-    starts-green-requires
-    partner-requires
-    same-colour-requires
+    (λ c κs. search needs)
+    (λ c κs. search needs)
+    (λ c κs. search needs)
     sub-at
     mul-at
     add-end
     mul-own-row
-    sub-own-row
-    part-own-row-start
+    (λ c. search needs)
+    (λ c. search needs)
     part-own-row-end
     own-row-requires
-    same-length
+    (λ c. search needs)
+    (λ c. search needs)
+    (λ c. search needs)
+    (λ c. search needs)
     returns
-    mirror-requires
+    (λ c κs. search needs)
     sub-a
     mul-a
     add-a-end
-    add-mirror
-    mirror-requires-2
+    (λ c. search needs)
+    (λ c κs. search needs)
     sub-b
     mul-b
     add-b-end
     mul-other-row
-    sub-other-row
-    part-other-row-start
+    (λ c. search needs)
+    (λ c. search needs)
     part-other-row-end
     mul-other-row-2
-    sub-other-row-2
-    part-other-row-start-2
+    (λ c. search needs)
+    (λ c. search needs)
     part-other-row-end-2
     other-row-requires
-    same-length-2
+    (λ c. search needs)
+    (λ c. search needs)
+    (λ c. search needs)
+    (λ c. search needs)
     returns-2)

@@ -1,0 +1,5 @@
+pub mod ShareLaws
+pub mod MeanLaws
+pub mod LiftLaws
+pub mod FusionLaws
+pub mod FusedBound
