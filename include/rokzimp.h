@@ -10,10 +10,12 @@
  *   - A run that is written (red, green, blue of a strip or a preview; the mosaic that is given back; a test frame or its row)
  *     overlaps no other run of the same call. Runs that are only read may overlap each other.
  *   - No other thread writes a run of the call while it runs, nor reads one that it writes.
+ *   - The thread's floating-point numbers are rounded to nearest, halves to even, as C starts it: strips and previews divide in such numbers, and
+ *     are exact only then.
  *
  * The library keeps no memory between calls, takes no lock and no heap, and prints nothing. Calls in several threads are
- * independent; strips and previews of one frame may run at the same time, each into its own rows. A strip takes about 810 KB of
- * stack, whatever the size of the frame: a thread that calls it needs a stack of 1 MB at the least. A preview takes about 209 KB: a
+ * independent; strips and previews of one frame may run at the same time, each into its own rows. A strip takes about 720 KB of
+ * stack, whatever the size of the frame: a thread that calls it needs a stack of 1 MB at the least. A preview takes about 188 KB: a
  * thread that calls no strip needs 256 KB at the least. The others take next to none.
  *
  * A frame has `width` columns and `height` rows, each 2 to 4096. Rows and columns count from 0. Readings are 0 to 4095. The
