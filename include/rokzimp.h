@@ -10,8 +10,9 @@
  *   - A run that is written (red, green, blue of a strip or a preview; the mosaic that is given back; a test frame or its row)
  *     overlaps no other run of the same call. Runs that are only read may overlap each other.
  *   - No other thread writes a run of the call while it runs, nor reads one that it writes.
- *   - The thread's floating-point numbers are rounded to nearest, halves to even, as C starts it: strips and previews divide in such numbers, and
- *     are exact only then.
+ *   - In the calling thread floats are rounded to the nearest, halves to even, and no floating-point exception traps; both are so unless
+ *     a program sets it otherwise (fesetround, feenableexcept). A strip or a preview works green out in floats: rounded another way its
+ *     samples would be off by a unit or so. Whether subnormal numbers are flushed to 0 does not matter. A call may set the inexact flag.
  *
  * The library keeps no memory between calls, takes no lock and no heap, and prints nothing. Calls in several threads are
  * independent; strips and previews of one frame may run at the same time, each into its own rows. A strip takes about 720 KB of
