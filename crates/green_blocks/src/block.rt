@@ -119,7 +119,8 @@ fn fuse_rows(
     }
 }
 
-// Green of rows v to v + b - 1. x, d, g and tv are room for the block's readings, differences, gradients and direction sums along the columns, the others for a row's sums and half rows; what they held before does not matter, and what they hold afterwards is not promised.
+// Green of rows v to v + b - 1.
+// x, d, g and tv are room for the block's readings, differences, gradients and direction sums along the columns, the others for a row's sums and half rows; what they held before does not matter, and what they hold afterwards is not promised.
 pub fn green_block(
     frame: Frame,
     start: usize,
@@ -142,7 +143,12 @@ pub fn green_block(
         × (length (now d) ≡ b * (frame .width + 14) + 2 * (frame .width + 14) + (b * (frame .width + 14) + 8 * (frame .width + 14)))
         × (length (now g) ≡ b * (frame .width + 14) + 2 * (frame .width + 14) - 4 + (b * (frame .width + 14) + 4 * (frame .width + 14)))
         × (length (now tv) ≡ (b + 2) * ((frame .width + 1) / 2)) ⌝ }
-    requires { ⌜ ((frame .width + 1) / 2 + 1 ≤ length (now t)) × (4 * ((frame .width + 1) / 2) ≤ length (now f)) × ((frame .width + 1) / 2 ≤ length (now r)) × ((frame .width + 1) / 2 ≤ length (now p)) × ((frame .width + 1) / 2 ≤ length (now q)) × (length (now out) ≡ b * frame .width) ⌝ }
+    requires { ⌜ ((frame .width + 1) / 2 + 1 ≤ length (now t))
+        × (4 * ((frame .width + 1) / 2) ≤ length (now f))
+        × ((frame .width + 1) / 2 ≤ length (now r))
+        × ((frame .width + 1) / 2 ≤ length (now p))
+        × ((frame .width + 1) / 2 ≤ length (now q))
+        × (length (now out) ≡ b * frame .width) ⌝ }
     ensures { λ _. ⌜ now (out .exit) ≡ joined (λ i. greenRow frame start (now (piece .entry)) (v + i)) b ⌝ }
 {
     let w = frame.width;

@@ -22,7 +22,8 @@ before step d p k = getD d (p - k * step) (pos 0)
 
 -- The buffers are drawn in green_blocks/specs/Block. Direction 0 is east, 1 west, 2 north, and every one from 3 on south. dh and gh hold the differences and gradients along the row, of the row before, the row and the row after;
 -- dv holds the differences along the column of the four rows before to the four rows after. Place j + 7 of a row of dh and dv is column j. gh starts two places later: its place j + 5 is column j.
--- tv holds three rows of h direction sums, of gradients along the column: of windows about pixels of the row before, of the row, and of the row after. In the first and the last of them place i is that of the row's red or blue pixel i, whose column is 2 i or 2 i + 1
+-- tv holds three rows of h direction sums, of gradients along the column: of windows about pixels of the row before, of the row, and of the row after.
+-- In the first and the last of them place i is that of the row's red or blue pixel i, whose column is 2 i or 2 i + 1
 
 -- direction k's five-sum at column j, of a red or blue pixel
 abbrev pub fiveIn : (ws : List ℕ) (s : ℕ) (dh dv : List ℤ) (k j : ℕ) → ℤ

@@ -103,7 +103,11 @@ fn fuse(
     requires { ⌜ (odd < 2) × (AllAtMost 4095 (now x)) × (0 < length (now x)) × (length (now out) ≡ length (now x)) ⌝ }
     requires { ⌜ (length (now x) + 14 ≤ s) × (s ≤ 4110) × (length (now dh) ≡ 3 * s) × (length (now dv) ≡ 9 * s) × (length (now gh) + 4 ≡ 3 * s) × (length (now tv) ≡ 3 * ((length (now x) + 1) / 2)) ⌝ }
     requires { ⌜ (AllWithin mostDifference (now dh)) × (AllWithin mostDifference (now dv)) × (AllAtMost mostGradient (now gh)) × (AllAtMost mostSum (now tv)) ⌝ }
-    requires { ⌜ (length (now r) ≡ (length (now x) + 1 - odd) / 2) × (length (now t) ≡ length (now r) + 1) × (length (now f) ≡ 4 * length (now r)) × (length (now p) ≡ length (now r)) × (length (now p) + length (now q) ≡ length (now x)) ⌝ }
+    requires { ⌜ (length (now r) ≡ (length (now x) + 1 - odd) / 2)
+        × (length (now t) ≡ length (now r) + 1)
+        × (length (now f) ≡ 4 * length (now r))
+        × (length (now p) ≡ length (now r))
+        × (length (now p) + length (now q) ≡ length (now x)) ⌝ }
     ensures { λ _. ⌜ now (out .exit) ≡ table (greenIn scale (weightsOf smoothing) s odd (now (x .entry)) (now (dh .entry)) (now (dv .entry)) (now (gh .entry)) (now (tv .entry))) (length (now (x .entry))) ⌝ }
 {
     let h = (x.len() + 1) / 2;
@@ -133,7 +137,11 @@ pub fn fuse_in(
     requires { ⌜ (odd < 2) × (AllAtMost 4095 (now x)) × (0 < length (now x)) × (length (now out) ≡ length (now x)) ⌝ }
     requires { ⌜ (length (now x) + 14 ≤ s) × (s ≤ 4110) × (length (now dh) ≡ 3 * s) × (length (now dv) ≡ 9 * s) × (length (now gh) + 4 ≡ 3 * s) × (length (now tv) ≡ 3 * ((length (now x) + 1) / 2)) ⌝ }
     requires { ⌜ (AllWithin mostDifference (now dh)) × (AllWithin mostDifference (now dv)) × (AllAtMost mostGradient (now gh)) × (AllAtMost mostSum (now tv)) ⌝ }
-    requires { ⌜ ((length (now x) + 1) / 2 + 1 ≤ length (now t)) × (4 * ((length (now x) + 1) / 2) ≤ length (now f)) × ((length (now x) + 1) / 2 ≤ length (now r)) × ((length (now x) + 1) / 2 ≤ length (now p)) × ((length (now x) + 1) / 2 ≤ length (now q)) ⌝ }
+    requires { ⌜ ((length (now x) + 1) / 2 + 1 ≤ length (now t))
+        × (4 * ((length (now x) + 1) / 2) ≤ length (now f))
+        × ((length (now x) + 1) / 2 ≤ length (now r))
+        × ((length (now x) + 1) / 2 ≤ length (now p))
+        × ((length (now x) + 1) / 2 ≤ length (now q)) ⌝ }
     ensures { λ _. ⌜ now (out .exit) ≡ table (greenIn scale (weightsOf smoothing) s odd (now (x .entry)) (now (dh .entry)) (now (dv .entry)) (now (gh .entry)) (now (tv .entry))) (length (now (x .entry))) ⌝ }
 {
     let n = (x.len() + 1 - odd) / 2;

@@ -32,7 +32,10 @@ fn fill_planes_in(
     below: &mut [u16],
 )
     requires { ⌜ (Readable frame (pieceStart a) (now piece) a n) × (Sized frame n (length (now red)) (length (now green)) (length (now blue))) ⌝ }
-    requires { ⌜ (Room (frame .width) (length (now x)) (length (now d)) (length (now g)) (length (now tv)) (length (now t)) (length (now f)) (length (now r)) (length (now p)) (length (now q))) × (length (now above) ≡ frame .width) × (length (now below) ≡ frame .width) × (frame .width + 5 ≤ length (now f)) ⌝ }
+    requires { ⌜ (Room (frame .width) (length (now x)) (length (now d)) (length (now g)) (length (now tv)) (length (now t)) (length (now f)) (length (now r)) (length (now p)) (length (now q)))
+        × (length (now above) ≡ frame .width)
+        × (length (now below) ≡ frame .width)
+        × (frame .width + 5 ≤ length (now f)) ⌝ }
     ensures { λ _. ⌜ Filled frame a n (now (piece .entry)) (now (red .exit)) (now (green .exit)) (now (blue .exit)) ⌝ }
 {
     let start = piece_start(a);
@@ -94,7 +97,10 @@ pub fn fill_planes(
     below: &mut [u16],
 )
     requires { ⌜ (Readable frame (pieceStart a) (now piece) a n) × (Sized frame n (length (now red)) (length (now green)) (length (now blue))) ⌝ }
-    requires { ⌜ (Room (frame .width) (length (now x)) (length (now d)) (length (now g)) (length (now tv)) (length (now t)) (length (now f)) (length (now r)) (length (now p)) (length (now q))) × (frame .width ≤ length (now above)) × (frame .width ≤ length (now below)) × (frame .width + 5 ≤ length (now f)) ⌝ }
+    requires { ⌜ (Room (frame .width) (length (now x)) (length (now d)) (length (now g)) (length (now tv)) (length (now t)) (length (now f)) (length (now r)) (length (now p)) (length (now q)))
+        × (frame .width ≤ length (now above))
+        × (frame .width ≤ length (now below))
+        × (frame .width + 5 ≤ length (now f)) ⌝ }
     ensures { λ _. ⌜ Filled frame a n (now (piece .entry)) (now (red .exit)) (now (green .exit)) (now (blue .exit)) ⌝ }
 {
     let w = frame.width;

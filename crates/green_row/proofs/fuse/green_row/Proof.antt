@@ -7,7 +7,7 @@ use lib.Seq.{length-take-le}
 use borrow.Author.Needs.{needs}
 use Rattle.lists.specs.Table.{table}
 use Rattle.lists.proofs.BoundLaws.{all-part}
-use Rattle.green_row.proofs.RowHalves.{from-halves}
+use Rattle.green_row.proofs.RowHalves.{green-from-halves}
 use Rattle.green_row.proofs.fuse.green_row.Statement.{statement}
 use Rattle.green_row.proofs.fuse.green_row.Tie as tie
 
@@ -37,7 +37,7 @@ returns c =
     let a = k .args in
     let l : length (a .out .now) ≡ length (a .x .now) = k .pre .0 .4 in
     i .interleave .ensures ∙ ap (table _) l
-    ∙ from-halves (a .x .now) (a .r .now) (a .odd) (k .pre .0 .0) (length (a .p .now)) (length (a .q .now)) (k .pre .1 .0) (k .pre .1 .1) (e .estimated .ensures) (o .observed .ensures)
+    ∙ green-from-halves (a .x .now) (a .r .now) (a .odd) (k .pre .0 .0) (length (a .p .now)) (length (a .q .now)) (k .pre .1 .0) (k .pre .1 .1) (e .estimated .ensures) (o .observed .ensures)
 
 -- what the other calls and the parts ask is found
 pub green-row-spec : {M : Type 1} → statement M
