@@ -120,7 +120,8 @@ fn fuse_rows(
 }
 
 // Green of rows v to v + b - 1.
-// x, d, g and tv are room for the block's readings, differences, gradients and direction sums along the columns, the others for a row's sums and half rows; what they held before does not matter, and what they hold afterwards is not promised.
+// x, d, g and tv are room for the block's readings, differences, gradients and direction sums along the columns, the others for a row's sums and half rows;
+// what they held before does not matter, and what they hold afterwards is not promised.
 pub fn green_block(
     frame: Frame,
     start: usize,
