@@ -15,8 +15,8 @@
  *     samples would be off by a unit or so. Whether subnormal numbers are flushed to 0 does not matter. A call may set the inexact flag.
  *
  * The library keeps no memory between calls, takes no lock and no heap, and prints nothing. Calls in several threads are
- * independent; strips and previews of one frame may run at the same time, each into its own rows. A strip takes about 720 KB of
- * stack, whatever the size of the frame: a thread that calls it needs a stack of 1 MB at the least. A preview takes about 188 KB: a
+ * independent; strips and previews of one frame may run at the same time, each into its own rows. A strip takes about 770 KB of
+ * stack, whatever the size of the frame: a thread that calls it needs a stack of 1 MB at the least. A preview takes about 200 KB: a
  * thread that calls no strip needs 256 KB at the least. The others take next to none.
  *
  * A frame has `width` columns and `height` rows, each 2 to 4096. Rows and columns count from 0. Readings are 0 to 4095. The

@@ -9,7 +9,8 @@ stored row by row without gaps. What is written has to be writable; what is only
 
 A refusal is raised as Refused, with the papers' number and word, and no lent sample is changed. A number too large for the
 library, or below 0, is refused as the largest number would be; where there is no refusal (a seed, a state, a number of steps, the rows
-of a piece) it raises ValueError. Calls let other Python threads run; see include/rokzimp.h for what threads may do at the same time.
+of a piece) it raises ValueError. So do strip_height and threads of whole_frame below 1, and a buffer to be written that overlaps
+another of the call. Calls let other Python threads run; see include/rokzimp.h for what threads may do at the same time.
 """
 import array
 import concurrent.futures

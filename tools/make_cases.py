@@ -408,6 +408,16 @@ class Maker:
             got = self.strip(20 + 3 * k % 11, 19 + 5 * k % 13, k % 4, 0, 19 + 5 * k % 13, Recipe(kind=3, amount=amount), [], choice=(1, 1, 0)[k % 3], entry=k % 2)
             assert got[0] == 0
 
+    def room_by_width(self):
+        """A call's room goes by the width: up to 128 columns, up to 1024, more."""
+        self.note('widths 127, 128, 129, 1023, 1024, 1025 by either entry; tall frames in previews')
+        for W, H, a, n in ((127, 9, 2, 7), (128, 9, 0, 9), (128, 40, 20, 1), (129, 9, 0, 9), (129, 40, 39, 1), (1023, 9, 3, 4), (1024, 8, 0, 8), (1025, 8, 0, 8),
+                           (LEAST, 4096, 4032, 64), (8, 4096, 0, 64), (9, 4096, 4095, 1), (4096, LEAST, 0, 1), (4097, LEAST, 0, 1), (LEAST, 4097, 0, 1)):
+            for entry in (FULL_SIZE, PREVIEW):
+                for choice in (0, 1):
+                    number = 1 if 4097 in (W, H) else 11 if entry == PREVIEW and W > 1024 else 0
+                    assert self.strip(W, H, self.g.randrange(4), a, n, choice=choice, entry=entry)[0] == number
+
     def wide_and_tall(self):
         g = self.g
         self.note('wide and tall frames; sizes %d and 4096' % LEAST)
@@ -838,6 +848,7 @@ def main():
     m.test_frames(40)
     m.test_rows(40)
     m.steps()
+    m.room_by_width()
     assert len('\n'.join(m.lines)) < room(), 'stdin is longer than the program reads'
     os.makedirs(where, exist_ok=True)
     for name, lines in (('stdin', m.lines), ('stdout', m.answers)):

@@ -1,9 +1,9 @@
 #!/usr/bin/env python3
 """planes_cases.py SEED [DIRECTORY]: writes crates/planes_cases/stdin (SEED 1), inputs of the two small programs, each behind a byte
 that says of which (0: frame files, 1: test frames) and a two-byte length, and crates/planes_cases/stdout, what the same
-program of reference/reference.py prints for each. Without a DIRECTORY it also writes stdin and stdout of crates/planes_long and
-planes_short, a file that is a byte too long and one that is a byte too short, and of crates/test_planes, test_planes_long and
-test_planes_short, seed 0, 8 by 8, layout 0, the same and a tenth byte, and the same without the last."""
+program of reference/reference.py prints for each. Without a DIRECTORY it also writes stdin and stdout of crates/planes_longest,
+planes_long and planes_short, the longest file, one that is a byte too long and one that is a byte too short, and of crates/test_planes,
+test_planes_long and test_planes_short, seed 0, 8 by 8, layout 0, the same and a tenth byte, and the same without the last."""
 import os
 import random
 import sys
@@ -130,12 +130,11 @@ def names():
         yield name(seed(), w, h, 3)
 
 
-def too_long():
-    """The longest frame file and one byte more."""
+def longest():
     rnd = random.Random(int(sys.argv[1]))
     data = frame_file(64, 64, 2, some(rnd, 4096))
     assert len(data) == 8202 and 'refused' not in reference.program(RULES, data)
-    return data + b'\0'
+    return data
 
 
 def write(where, stdin, printed):
@@ -157,7 +156,8 @@ def main():
     printed = [(reference.program, reference.generator_program)[kind](RULES, data) for kind, data in made]
     write(sys.argv[2] if len(sys.argv) > 2 else os.path.join(ROOT, 'crates', 'planes_cases'), among, ''.join(printed))
     if len(sys.argv) == 2:
-        one('planes_long', reference.program, too_long())
+        one('planes_longest', reference.program, longest())
+        one('planes_long', reference.program, longest() + b'\0')
         one('planes_short', reference.program, frame_file(8, 8, 0, [100] * 64)[:-1])
         one('test_planes', reference.generator_program, name(0, 8, 8, 0))
         one('test_planes_long', reference.generator_program, name(0, 8, 8, 0) + b'\0')

@@ -2,6 +2,7 @@
 """Tests of python/rokzimp.py, tools/frame_to_png.py, tools/planes_to_frame.py and tools/seed_to_frame.py, and with them of the C
 library: document 01's examples, each refusal, that nothing is copied, that any cutting into strips and any number of threads give
 the same planes, the preview, that the mosaic comes back from them, test frames, and frames compared with reference/reference.py.
+That of test_quotes.py runs with them.
 
     tools/build_library.sh && tools/test_python.py"""
 import array
@@ -20,6 +21,7 @@ import unittest.mock
 import zlib
 
 from stage import ROOT, RULES
+from test_quotes import Quotes, SamePrograms  # noqa: F401, so that its test runs too
 sys.path.insert(0, os.path.join(ROOT, "python"))
 import reference
 import rokzimp
@@ -400,7 +402,7 @@ class Test(unittest.TestCase):
             self.assertEqual(tuple(lent), whole_frame(width, height, layout, mosaic, strip_height=height, smoothing=smoothing))
 
     def test_preview_in_a_small_stack(self):
-        """The header's 256 KB are enough, in which a strip would not run."""
+        """The header's 256 KB are enough, in which a strip of 4096 columns would not run."""
         script = ("import sys, threading; sys.path.insert(0, 'python'); import rokzimp; from array import array\n"
                   "lent = [array('H', [100] * 65536) for _ in range(4)]\n"
                   "threading.stack_size(2 ** 18)\n"

@@ -1,8 +1,9 @@
 /* Megapixels per second of one thread on a frame of 4096 rows and 4096 columns: the proved library beside strip_general of
  * reference/demosaic.c in its two builds, in whole numbers and with quotients guessed in floating point and put right (-DFPDIV); in
- * strips of 1, 16, 64 and 4096 rows of random readings, whole for other readings and of 64 columns, and of 1024 columns in strips of 16
- * and 64 rows by the full-size entry and by the preview, each by either smoothing; the mosaic back of the whole frame, a test frame, and
- * the same by single rows, each beside a plain function below; and the memory that each uses beside the mosaic and the planes.
+ * strips of 1, 16, 64 and 4096 rows of random readings, whole for other readings; of 64 columns, whole and in strips of 16 rows; of
+ * 1024 columns in strips of 16 and 64 rows by the full-size entry and by the preview; each by either smoothing; the mosaic back of the
+ * whole frame, a test frame, and the same by single rows, each beside a plain function below; and the memory that each uses beside the
+ * mosaic and the planes.
  *
  *   bench [seconds]    time spent at the least on each figure (default 2)
  *
@@ -224,7 +225,7 @@ static int timed(Figure f, int smoothing, double seconds, double best[EACH]) {
 
 /* The table of strips, each figure by either smoothing; whether some planes differ. The last figure leaves the planes of a whole frame. */
 static int strips(double seconds) {
-    static const Figure figures[] = {{0, 64, 4096, 0}, {0, 1024, 16, 0}, {0, 1024, 16, 1}, {0, 1024, 64, 0}, {0, 1024, 64, 1},
+    static const Figure figures[] = {{0, 64, 16, 0}, {0, 64, 4096, 0}, {0, 1024, 16, 0}, {0, 1024, 16, 1}, {0, 1024, 64, 0}, {0, 1024, 64, 1},
                                      {0, SIZE, 1, 0}, {0, SIZE, 16, 0}, {0, SIZE, 64, 0},
                                      {0, SIZE, 4096, 0}, {1, SIZE, 4096, 0}, {2, SIZE, 4096, 0}};
     enum { FIGURES = 2 * sizeof figures / sizeof *figures };

@@ -6,7 +6,7 @@ use native.Mathlib.Numerals.{add-one}
 use native.Mathlib.Omega.{arith}
 use lib.Dec.{lit≤}
 use lib.IntN.{ℤ, pos, subℕ}
-use Rattle.whole.proofs.Pairs.{sub-eq, sub-pos}
+use Rattle.whole.proofs.Pairs.{sub-pos}
 use Rattle.bayer.specs.declared.frame.Frame.{Frame}
 use Rattle.bayer.specs.Mirror.{mirror}
 use Rattle.bayer.specs.Lent.{Lent}
@@ -20,12 +20,6 @@ module _ {f : Frame} {first n v : ℕ} (lent : Lent f first n v) where
   read : (r : ℕ) (z : ℤ) → r < 13 → subℕ (v + r) 6 ≡ z → Inside f first n (mirror (f .height) z)
   read r z h e = subst (λ z. Inside f first n (mirror (f .height) z)) e (lent .start r h, rw (add-one, suc-mul) at (lent .end r h))
 
-  -- row v itself, and the rows that are read above and below it
+  -- row v itself
   pub row-inside : Inside f first n v
   row-inside = rw (mirror-inside (f .height) v (lent .row)) at (read 6 (pos v) (lit≤ tt) (sub-pos (v + 6) 6 v (omega arith)))
-
-  pub above-inside : {r : ℕ} → r ≡ mirror (f .height) (subℕ v 1) → Inside f first n r
-  above-inside e = rw e (read 5 (subℕ v 1) (lit≤ tt) (sub-eq (v + 5) 6 v 1 (omega arith)))
-
-  pub below-inside : {r : ℕ} → r ≡ mirror (f .height) (subℕ (v + 1) 0) → Inside f first n r
-  below-inside e = rw e (read 7 (subℕ (v + 1) 0) (lit≤ tt) (sub-eq (v + 7) 6 (v + 1) 0 (omega arith)))

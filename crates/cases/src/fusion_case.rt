@@ -1,4 +1,4 @@
-ghost use Prim.Native.Nat.{_*_, _≤_, _<_};
+ghost use Prim.Native.Nat.{_*_, _≤_};
 ghost use lib.IntN.{natAbs};
 ghost use Rattle.gbtf.specs.Machine.{Fitting};
 use crate::fields::Fields;

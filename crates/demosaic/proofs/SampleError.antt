@@ -46,7 +46,7 @@ module _ (f : Frame) (m : Mosaic) (G : (i j : ℤ) → ℕ) (E : (i j : ℤ) →
   sampleFrom-within figure p g r b Green i j = within-wider (figure Green) 100 (omega arith) g (near i j)
   sampleFrom-within figure p g r b Blue i j = within-wider (figure Blue) 100 (omega arith) b (otherFrom-within Blue i j)
 
--- THE PRINTED ERROR of document 01, by green's sharper bound
+-- THE PRINTED ERROR, whose figures are document 02's (A.4.6), by green's sharper bound
 pub printed-error : (f : Frame) (first : ℕ) (rows : List ℕ) → AllAtMost 4095 rows
     → (k : Colour) (i j : ℕ) → Within (natural (sample f first rows k i j)) (exactSample f first rows k i j) (printedError k) 100
 unfolding sample exactSample

@@ -38,7 +38,7 @@ abbrev pub readingOf : Mosaic → Pixel → ℕ
 readingOf m p = m .reading (pos (p .row)) (pos (p .col))
 
 -- the neighbours that colour k is filled from at row i and column j, a pixel of another colour:
--- at green the two in its row, if they have the colour, or else the two in its column; at the opposite colour the four diagonal ones
+-- at green the two in its row, if the right one has the colour (the left one then has it too: `neighbours-have-colour`), or else the two in its column; at the opposite colour the four diagonal ones
 unfoldable pub neighbours : Frame → Mosaic → (k : Colour) (i j : ℤ) → List Pixel
 neighbours f m k i j = cond (isGreen m i j) (cond (same (m .colour i (j +ℤ pos 1)) k) (inRow f i j) (inColumn f i j)) (diagonal f i j)
 

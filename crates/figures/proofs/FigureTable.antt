@@ -90,6 +90,8 @@ figures-hold =
     and tt and tt and tt
     and refl and refl and refl and refl and refl and refl
     and tt and tt and tt
+    and tt and tt and tt and tt
+    and tt and tt and tt and tt
     and tt and tt and tt
     and refl and refl and refl and refl and refl
     and refl and refl and refl and refl

@@ -14,7 +14,7 @@ use Rattle.bayer.specs.declared.frame.Frame.{Frame}
 use Rattle.bayer.specs.Frame.{frame, smoothed}
 use Rattle.bayer.specs.Mirror.{mirror}
 use Rattle.bayer.specs.Planes.{threePlanes}
-use Rattle.bayer.specs.Refusal.{Refusal, notCameraPlanes, unknownSmoothing, overPreviewSize, number, firstOf}
+use Rattle.bayer.specs.Refusal.{Refusal, sizeOutOfRange, unknownLayout, rowsOutsideFrame, wrongPieceLength, wrongPlaneLength, readingOutOfRange, rowMissing, malformedFile, notCameraPlanes, unknownSmoothing, overPreviewSize, number, firstOf}
 use Rattle.bayer.specs.Condition.{sizeCases}
 use Rattle.gbtf.specs.declared.direction.Direction.{Direction}
 use Rattle.gbtf.specs.Difference.{difference}
@@ -115,6 +115,8 @@ figures =
     ∷ mirrorReads 2 (negsuc 2) 1 ∷ mirrorReads 2 (pos 4) 0 ∷ mirrorReads 3 (pos 7) 1
     ∷ sizesAre 1 8 1 ∷ sizesAre 8 1 1 ∷ sizesAre 2 2 0 ∷ sizesAre 4096 4096 0 ∷ sizesAre 4097 8 1 ∷ sizesAre 8 4097 1
     ∷ printedIs Red 155 ∷ printedIs Green 53 ∷ printedIs Blue 155
+    ∷ numberIs sizeOutOfRange 1 ∷ numberIs unknownLayout 2 ∷ numberIs rowsOutsideFrame 3 ∷ numberIs wrongPieceLength 4
+    ∷ numberIs wrongPlaneLength 5 ∷ numberIs readingOutOfRange 6 ∷ numberIs rowMissing 7 ∷ numberIs malformedFile 8
     ∷ numberIs notCameraPlanes 9 ∷ numberIs unknownSmoothing 10 ∷ numberIs overPreviewSize 11
     ∷ nothingLentIs FullSize 8 8 0 0 0 0 3 ∷ nothingLentIs FullSize 8 8 0 1 0 0 3 ∷ nothingLentIs FullSize 8 8 0 2 0 0 10 ∷ nothingLentIs FullSize 8 8 0 255 0 0 10 ∷ nothingLentIs FullSize 8 8 4 2 0 0 2
     ∷ nothingLentIs Preview 1024 80 0 1 0 64 4 ∷ nothingLentIs Preview 1025 80 0 1 0 64 11 ∷ nothingLentIs Preview 1024 80 0 1 0 65 11 ∷ nothingLentIs FullSize 1025 80 0 1 0 65 4

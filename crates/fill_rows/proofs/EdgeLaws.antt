@@ -1,72 +1,90 @@
 -- The colour differences of a row with its ends repeated: how the list is made, and what it has beside a column. Assumes nothing.
-use Prim.Native.Nat.{ℕ, suc, _+_, _-_, _*_, _/_, _%_, _≤_, _<_, min}
+use Prim.Native.Nat.{ℕ, zero, suc, _+_, _-_, _*_, _/_, _%_, _≤_, _<_, min}
 use mathlib.Core.Path.{_≡_, sym, ap, ap₂, _∙_}
-use mathlib.Core.List.{List, [], _∷_, _++_}
-use native.Mathlib.Decide.{decLe}
-use native.Mathlib.Nat.{add-comm}
-use native.Mathlib.Numerals.{add-one}
+use mathlib.Core.List.{List, [], _∷_}
+use native.Mathlib.Decide.{decLe, decLt}
 use native.Mathlib.Omega.{arith}
 use lib.IntN.{ℤ, pos, natAbs}
-use lib.ListN.{length, getD, set, take, drop, drop-of-length-le, List·getD-append}
-use lib.Seq.{drop-cons, set-at}
-use mir.Syntax.{w32}
-use mir.Val.{ofZ, toZ}
+use lib.ListN.{length, getD, set, take, drop, length-append, length-take, length-drop, length-set, List·getD-append}
+use lib.Seq.{getD-set-same, getD-set-other, ext-getD}
 use Rattle.whole.proofs.Pairs.{sub-pos, natₚ, _-ₚ_, within-by}
-use Rattle.whole.proofs.Signed.{int, value}
 use Rattle.lists.specs.Table.{table}
-use Rattle.lists.specs.Bound.{AllAtMost, AllWithin}
-use Rattle.lists.proofs.TableLaws.{length-table, getD-table, table-same, table-append, table-all}
+use Rattle.lists.specs.Bound.{AllAtMost}
+use Rattle.lists.proofs.TableLaws.{length-table, getD-table, table-same}
 use Rattle.lists.proofs.PartLaws.{placed, getD-part}
 use Rattle.bayer.specs.Mirror.{mirror}
 use Rattle.bayer.proofs.MirrorLaws.{once-below, once-above}
 use Rattle.demosaic.specs.Fill.{colourDifference}
 use Rattle.fill_rows.specs.FillRow.{leftOf, rightOf, colourDifferenceAt}
-use Rattle.fill_rows.specs.HalfFill.{pixels, edged}
+use Rattle.half_rows.specs.HalfRow.{pixels}
+use Rattle.fill_rows.specs.HalfFill.{places, edged}
 use Rattle.fill_rows.proofs.SideLaws.{before-inside, after-inside}
-use Rattle.fill_rows.proofs.FilledLaws.{taken}
+use Rattle.fill_rows.proofs.FilledLaws.{taken, taken-is}
 
--- ---- how it is made: m entries by a rule, after the first place, and then the first and the last place of m + 2
+-- ---- how it is made: m entries by a rule, after the first place, then the first place, the one after them and the last
 
-snoc : (f : ℕ → ℤ) (n : ℕ) → table f n ++ (f n ∷ []) ≡ table f (n + 1)
-unfolding table
-snoc f n = rw (add-one n)
+module _ (f : ℕ → ℤ) (small : (k : ℕ) → natAbs (f k) ≤ 1048560) where
+  -- an entry that is f k, where it is read
+  read : (l : List ℤ) (p k : ℕ) → getD l p (pos 0) ≡ f k → taken l p ≡ f k
+  read l p k e = taken-is l p e (small k)
 
-cons : (f : ℕ → ℤ) (n : ℕ) → f 0 ∷ table (λ k. f (1 + k)) n ≡ table f (n + 1)
-unfolding table
-cons f n = sym (table-append f 1 n) ∙ ap (table f) (add-comm 1 n)
+  -- a store of f i at place i: place k has f k if it had, or is place i
+  stored : (l : List ℤ) (i k : ℕ) {a : ℤ} → i < length l → a ≡ f i → ((k ≡ i → ⊥) → getD l k (pos 0) ≡ f k) → getD (set l i a) k (pos 0) ≡ f k
+  stored l i k {a} h e had =
+      elim (decLt k i) [
+        | yes q ↦ other (λ t. (let z : ⊥ = omega arith in z))
+        | no q ↦
+            elim (decLt i k) [
+              | yes r ↦ other (λ t. (let z : ⊥ = omega arith in z))
+              | no r ↦ let t : k ≡ i = omega arith in rw (t, e) (getD-set-same l i (f i) (pos 0) h)
+            ]
+      ]
+    where
+      other : (k ≡ i → ⊥) → getD (set l i a) k (pos 0) ≡ f k
+      other q = getD-set-other l i k a (pos 0) q ∙ had q
 
-between : (m : ℕ) (d ys : List ℤ) → length d ≡ m + 2 → placed 1 (length d - 1) d ys ≡ getD d 0 (pos 0) ∷ (ys ++ (getD d (suc m) (pos 0) ∷ []))
-between m [] ys h = absurd (let z : ⊥ = omega arith in z)
-between m (o ∷ d) ys h =
-    let i : length (o ∷ d) - 1 - 1 ≡ m = omega arith in
-    let r : drop m d ≡ getD d m (pos 0) ∷ [] = drop-cons d m (pos 0) (omega arith) ∙ ap (λ (l : List ℤ). getD d m (pos 0) ∷ l) (drop-of-length-le d {i = suc m} (omega arith)) in
-    ap (λ n. o ∷ (ys ++ drop n d)) i ∙ ap (λ (l : List ℤ). o ∷ (ys ++ l)) r
+  module _ (m : ℕ) (d ys : List ℤ) (some : 1 ≤ m) (low : m + 2 ≤ length d) (high : length d ≤ m + 3) (is : ys ≡ table (λ k. f (1 + k)) m) where
+    abbrev l₀ : List ℤ
+    l₀ = placed 1 (m + 1) d ys
 
-module _ (f : ℕ → ℤ) (m : ℕ) (some : 1 ≤ m) (small : (k : ℕ) → natAbs (f k) ≤ 1048560) where
-  read : (l : List ℤ) (k n : ℕ) → getD l n (pos 0) ≡ f k → taken l n ≡ f k
-  read l k n e = ap (λ z. toZ w32 (ofZ w32 z)) e ∙ value (int (f k) 1048560 (small k)) tt
+    abbrev l₁ : List ℤ
+    l₁ = set l₀ 0 (taken l₀ 1)
 
-  module _ (first : f 0 ≡ f 1) (last : f (m + 1) ≡ f m) (o z : ℤ) where
-    begun : (l : List ℤ) → l ≡ o ∷ (table (λ k. f (1 + k)) m ++ (z ∷ [])) → set l 0 (taken l 1) ≡ table f (m + 1) ++ (z ∷ [])
-    begun l e =
-        let r : taken l 1 ≡ f 0 = read l 1 1 (rw e (List·getD-append (table (λ k. f (1 + k)) m) (z ∷ []) (pos 0) 0 (rw length-table some) ∙ getD-table _ m 0 (pos 0) some)) ∙ sym first in
-        ap₂ (λ (a : List ℤ) (b : ℤ). set a 0 b) e r ∙ ap (λ (a : List ℤ). a ++ (z ∷ [])) (cons f m)
+    abbrev l₂ : List ℤ
+    l₂ = set l₁ (m + 1) (taken l₁ m)
 
-    ended : (s : List ℤ) (n p : ℕ) → n ≡ m + 1 → p ≡ m → s ≡ table f (m + 1) ++ (z ∷ []) → set s n (taken s p) ≡ table f (m + 2)
-    ended s n p i j e =
-        let r : taken s p ≡ f (m + 1) = read s m p (rw (e, j) (List·getD-append (table f (m + 1)) (z ∷ []) (pos 0) m (rw length-table (omega arith)) ∙ getD-table f (m + 1) m (pos 0) (omega arith))) ∙ sym last in
-        let k : m + 1 + 1 ≡ m + 2 = omega arith in
-        rw (r, e, i) (set-at (table f (m + 1)) z [] (f (m + 1)) (m + 1) (length-table f (m + 1)) ∙ snoc f (m + 1) ∙ ap (table f) k)
+    long : length l₀ ≡ length d
+    long = let e : length ys ≡ m = ap length is ∙ length-table _ m in simp (length-append, length-take, length-drop) (omega arith)
 
-  pub framed : (d : List ℤ) {ys : List ℤ} → length d ≡ m + 2 → ys ≡ table (λ k. f (1 + k)) m → f 0 ≡ f 1 → f (m + 1) ≡ f m →
-      let l = placed 1 (length d - 1) d ys in
-      let s = set l 0 (taken l 1) in
-      set s (length d - 1) (taken s (length d - 1 - 1)) ≡ table f (m + 2)
-  framed d {ys} h e first last =
-      ended first last (getD d 0 (pos 0)) (getD d (suc m) (pos 0)) _ (length d - 1) (length d - 1 - 1) (omega arith) (omega arith) (begun first last (getD d 0 (pos 0)) (getD d (suc m) (pos 0)) _ (between m d ys h ∙ ap (λ (l : List ℤ). getD d 0 (pos 0) ∷ (l ++ (getD d (suc m) (pos 0) ∷ []))) e))
+    inner : (k : ℕ) → 1 ≤ k → k ≤ m → getD l₀ k (pos 0) ≡ f k
+    inner k h l = within d low k h l
+      where
+        within : (d : List ℤ) → m + 2 ≤ length d → (k : ℕ) → 1 ≤ k → k ≤ m → getD (placed 1 (m + 1) d ys) k (pos 0) ≡ f k
+        within [] n k h l = absurd (let z : ⊥ = omega arith in z)
+        within (o ∷ d) n zero h l = absurd (let z : ⊥ = omega arith in z)
+        within (o ∷ d) n (suc k) h l =
+            let e : 1 + k ≡ suc k = omega arith in
+            let t : k < length ys = rw (is, length-table) (omega arith) in
+            List·getD-append ys _ (pos 0) k t ∙ rw is (getD-table _ m k (pos 0) (omega arith)) ∙ ap f e
+
+    framed : f 1 ≡ f 0 → f m ≡ f (m + 1) → f m ≡ f (length d - 1) → set l₂ (length d - 1) (taken l₂ m) ≡ table f (length d)
+    framed first after last =
+        ext-getD (pos 0) _ _ (simp (length-set, long, length-table))
+        (λ k h.
+        third k (λ r. second k (λ q. begun k (λ p. inner k (omega arith) (let b : k < length d = simp (length-set, long) at h in omega arith))))
+        ∙ sym (getD-table f (length d) k (pos 0) (simp (length-set, long) at h)))
+      where
+        begun : (k : ℕ) → ((k ≡ 0 → ⊥) → getD l₀ k (pos 0) ≡ f k) → getD l₁ k (pos 0) ≡ f k
+        begun k = stored l₀ 0 k (rw long (omega arith)) (read l₀ 1 1 (inner 1 (omega arith) some) ∙ first)
+
+        second : (k : ℕ) → ((k ≡ m + 1 → ⊥) → getD l₁ k (pos 0) ≡ f k) → getD l₂ k (pos 0) ≡ f k
+        second k = stored l₁ (m + 1) k (simp (length-set, long) (omega arith)) (read l₁ m m (begun m (λ _. inner m some (omega arith))) ∙ after)
+
+        third : (k : ℕ) → ((k ≡ length d - 1 → ⊥) → getD l₂ k (pos 0) ≡ f k) → getD (set l₂ (length d - 1) (taken l₂ m)) k (pos 0) ≡ f k
+        third k = stored l₂ (length d - 1) k (simp (length-set, long) (omega arith)) (read l₂ m m (second m (λ _. begun m (λ _. inner m some (omega arith)))) ∙ last)
 
 -- what a reading and a green of 16 bits can differ by
-small-difference : (x g : List ℕ) → AllAtMost 65535 x → AllAtMost 65535 g → (p : ℕ) → natAbs (colourDifferenceAt x g p) ≤ 1048560
+pub small-difference : (x g : List ℕ) → AllAtMost 65535 x → AllAtMost 65535 g → (p : ℕ) → natAbs (colourDifferenceAt x g p) ≤ 1048560
 small-difference x g hx hg p = within-by (natₚ (getD g p 0) -ₚ natₚ (16 * getD x p 0)) (omega (arith, hg p)) (omega (arith, hx p))
 
 -- how many pixels there are, and the place k of the one left of column j
@@ -86,25 +104,29 @@ column-right w side j k m e h l = omega arith
 column-last : (w side j k m : ℕ) → 2 * k + side ≡ j + 1 → j + 1 ≡ w → w ≤ 2 * m + side → 2 * m + side ≤ w + 1 → 1 ≤ m → 2 * min (k + 1 - 1) (m - 1) + side ≡ w - 1 - 1
 column-last w side j k m e h l u n = omega arith
 
-module _ (side : ℕ) (x g : List ℕ) (s : side < 2) (wide : 2 ≤ length x) where
+module _ (w side : ℕ) (x g : List ℕ) where
   abbrev m : ℕ
-  m = pixels (length x) side
+  m = pixels w side
 
   abbrev rule : ℕ → ℤ
   rule k = colourDifferenceAt x g (2 * min (k - 1) (m - 1) + side)
 
-  pub edged-within : AllAtMost 65535 x → AllAtMost 65535 g → AllWithin 1048560 (edged side x g)
+  pub edged-length : length (edged w side x g) ≡ places w
   unfolding edged
-  edged-within hx hg = table-all (λ z. natAbs z ≤ 1048560) rule (m + 2) (omega arith) (λ k _. small-difference x g hx hg _)
+  edged-length = length-table rule (places w)
 
   -- from the differences at every second column of the part from column `side` on
-  pub edged-made : (d : List ℤ) {ys : List ℤ} {n : ℕ} → length g ≡ length x → AllAtMost 65535 x → AllAtMost 65535 g → length d ≡ m + 2 → n ≡ m
+  pub edged-made : (d : List ℤ) {ys : List ℤ} {n : ℕ} → side < 2 → 2 ≤ w → length x ≡ w → length g ≡ w → AllAtMost 65535 x → AllAtMost 65535 g → length d ≡ places w → n ≡ m
       → ys ≡ table (λ k. colourDifferenceAt (take (length x - side) (drop side x)) (take (length g - side) (drop side g)) (2 * k)) n →
-      let l = placed 1 (length d - 1) d ys in
+      let l = placed 1 (m + 1) d ys in
       let r = set l 0 (taken l 1) in
-      set r (length d - 1) (taken r (length d - 1 - 1)) ≡ edged side x g
+      let s = set r (m + 1) (taken r m) in
+      set s (length d - 1) (taken s m) ≡ edged w side x g
   unfolding edged
-  edged-made d {ys} {n} same hx hg h i e = framed rule m (omega arith) (λ k. small-difference x g hx hg _) d h (e ∙ table-same _ _ n inner ∙ ap (table (λ k. rule (1 + k))) i) (at 0 1 (omega arith)) (at (m + 1) m (omega arith))
+  edged-made d {ys} {n} o wide lx lg hx hg h i e =
+      framed rule (λ k. small-difference x g hx hg _) m d ys (omega arith) (omega arith) (omega arith) (e ∙ table-same _ _ n inner ∙ ap (table (λ k. rule (1 + k))) i)
+      (at 1 0 (omega arith)) (at m (m + 1) (omega arith)) (at m (length d - 1) (omega arith))
+      ∙ ap (table rule) h
     where
       at : (a b : ℕ) → 2 * min (a - 1) (m - 1) + side ≡ 2 * min (b - 1) (m - 1) + side → rule a ≡ rule b
       at a b t = ap (colourDifferenceAt x g) t
@@ -116,42 +138,42 @@ module _ (side : ℕ) (x g : List ℕ) (s : side < 2) (wide : 2 ≤ length x) wh
 
   -- ---- what it has at a column of its pixels, and left and right of another
 
-  entry-is : (k p : ℕ) → k < m + 2 → 2 * min (k - 1) (m - 1) + side ≡ p → getD (edged side x g) k (pos 0) ≡ colourDifferenceAt x g p
+  entry-is : (k p : ℕ) → k < places w → 2 * min (k - 1) (m - 1) + side ≡ p → getD (edged w side x g) k (pos 0) ≡ colourDifferenceAt x g p
   unfolding edged
-  entry-is k p h e = getD-table rule (m + 2) k (pos 0) h ∙ ap (colourDifferenceAt x g) e
+  entry-is k p h e = getD-table rule (places w) k (pos 0) h ∙ ap (colourDifferenceAt x g) e
 
-  module _ (j : ℕ) (inside : j < length x) where
-    pub at-pixel : (j + side) % 2 ≡ 0 → getD (edged side x g) (j / 2 + 1) (pos 0) ≡ colourDifferenceAt x g j
+  module _ (s : side < 2) (wide : 2 ≤ w) (j : ℕ) (inside : j < w) where
+    pub at-pixel : (j + side) % 2 ≡ 0 → getD (edged w side x g) (j / 2 + 1) (pos 0) ≡ colourDifferenceAt x g j
     at-pixel e = entry-is (j / 2 + 1) j (omega arith) (omega arith)
 
     module _ (e : (j + side) % 2 ≡ 1) where
       abbrev left : ℕ
       left = (j + 1 - side) / 2
 
-      fits : (left + 1 < m + 2) × (length x ≤ 2 * m + side) × (2 * m + side ≤ length x + 1) × (2 * left + side ≡ j + 1)
-      fits = let n = pixels-many (length x) side s (omega arith) in let p = place-left side j s e in (omega arith, n .0, n .1, p)
+      fits : (left + 1 < places w) × (w ≤ 2 * m + side) × (2 * m + side ≤ w + 1) × (2 * left + side ≡ j + 1)
+      fits = let n = pixels-many w side s (omega arith) in let p = place-left side j s e in (omega arith, n .0, n .1, p)
 
-      pub at-left : getD (edged side x g) left (pos 0) ≡ colourDifferenceAt x g (leftOf (length x) j)
+      pub at-left : getD (edged w side x g) left (pos 0) ≡ colourDifferenceAt x g (leftOf w j)
       at-left =
           elim (decLe 1 j) [
             | yes h ↦
                 let p = fits in
-                entry-is left (j - 1) (omega arith) (column-left (length x) side j left m (p .3) inside (p .1) s h)
-                ∙ ap (colourDifferenceAt x g) (before-inside (length x) j h (omega arith))
+                entry-is left (j - 1) (omega arith) (column-left w side j left m (p .3) inside (p .1) s h)
+                ∙ ap (colourDifferenceAt x g) (before-inside w j h (omega arith))
             | no h ↦
                 let z : 0 ≡ j = omega arith in
                 let k : left ≡ 0 = omega arith in
-                ap (λ n. getD (edged side x g) n (pos 0)) k
+                ap (λ n. getD (edged w side x g) n (pos 0)) k
                 ∙ entry-is 0 1 (omega arith) (omega arith)
-                ∙ ap (colourDifferenceAt x g) (sym (once-below (length x) 0 wide) ∙ ap (leftOf (length x)) z)
+                ∙ ap (colourDifferenceAt x g) (sym (once-below w 0 wide) ∙ ap (leftOf w) z)
           ]
 
-      pub at-right : getD (edged side x g) (left + 1) (pos 0) ≡ colourDifferenceAt x g (rightOf (length x) j)
+      pub at-right : getD (edged w side x g) (left + 1) (pos 0) ≡ colourDifferenceAt x g (rightOf w j)
       at-right =
           let p = fits in
-          elim (decLe (j + 2) (length x)) [
-            | yes h ↦ entry-is (left + 1) (j + 1) (p .0) (column-right (length x) side j left m (p .3) h (p .1)) ∙ ap (colourDifferenceAt x g) (after-inside (length x) j (omega arith))
+          elim (decLe (j + 2) w) [
+            | yes h ↦ entry-is (left + 1) (j + 1) (p .0) (column-right w side j left m (p .3) h (p .1)) ∙ ap (colourDifferenceAt x g) (after-inside w j (omega arith))
             | no h ↦
-                entry-is (left + 1) (length x - 1 - 1) (p .0) (column-last (length x) side j left m (p .3) (omega arith) (p .1) (p .2) (omega arith))
-                ∙ ap (colourDifferenceAt x g) (sym (ap (mirror (length x)) (sub-pos (j + 1) 0 (length x - 1 + 1) (omega arith)) ∙ once-above (length x) 1 (omega arith)))
+                entry-is (left + 1) (w - 1 - 1) (p .0) (column-last w side j left m (p .3) (omega arith) (p .1) (p .2) (omega arith))
+                ∙ ap (colourDifferenceAt x g) (sym (ap (mirror w) (sub-pos (j + 1) 0 (w - 1 + 1) (omega arith)) ∙ once-above w 1 (omega arith)))
           ]

@@ -1,6 +1,6 @@
 -- Colour differences as the machine hands them on, and the samples that are filled from them. Assumes nothing.
 use Prim.Native.Nat.{ℕ, _≤_}
-use mathlib.Core.Path.{_≡_}
+use mathlib.Core.Path.{_≡_, refl, ap, _∙_}
 use mathlib.Core.List.{List, [], _∷_}
 use lib.IntN.{ℤ, pos, natAbs}
 use lib.ListN.{getD}
@@ -17,13 +17,14 @@ entry l k = getD l k (pos 0)
 abbrev pub taken : (l : List ℤ) (k : ℕ) → ℤ
 taken l k = toZ w32 (ofZ w32 (entry l k))
 
+-- what is read is what is there, if it is small
+pub taken-is : (l : List ℤ) (k : ℕ) {z : ℤ} → entry l k ≡ z → natAbs z ≤ 1048560 → taken l k ≡ z
+taken-is l k {z} e h = ap (λ z. toZ w32 (ofZ w32 z)) e ∙ value (int z 1048560 h) tt
+
+taken-within : (l : List ℤ) → AllWithin 1048560 l → (k : ℕ) → natAbs (taken l k) ≤ 1048560
+taken-within l h k = bounded (int {w = w32} (entry l k) 1048560 (h k)) tt
+
 module _ (a b : List ℤ) (ha : AllWithin 1048560 a) (hb : AllWithin 1048560 b) where
-  taken-is : (l : List ℤ) → AllWithin 1048560 l → (k : ℕ) → taken l k ≡ entry l k
-  taken-is l h k = value (int (entry l k) 1048560 (h k)) tt
-
-  taken-within : (l : List ℤ) → AllWithin 1048560 l → (k : ℕ) → natAbs (taken l k) ≤ 1048560
-  taken-within l h k = bounded (int {w = w32} (entry l k) 1048560 (h k)) tt
-
   pub two-within : (k : ℕ) → (natAbs (taken a k) ≤ 1048560) × (natAbs (taken b k) ≤ 1048560)
   two-within k = (taken-within a ha k, taken-within b hb k)
 
@@ -31,7 +32,7 @@ module _ (a b : List ℤ) (ha : AllWithin 1048560 a) (hb : AllWithin 1048560 b) 
   four-within k n = (taken-within a ha k, taken-within a ha n, taken-within b hb k, taken-within b hb n)
 
   pub two-same : (g k : ℕ) → unclamped 2 g (sumOf (taken a k ∷ taken b k ∷ [])) ≡ unclamped 2 g (sumOf (entry a k ∷ entry b k ∷ []))
-  two-same g k = λ t. unclamped 2 g (sumOf (taken-is a ha k t ∷ taken-is b hb k t ∷ []))
+  two-same g k = λ t. unclamped 2 g (sumOf (taken-is a k refl (ha k) t ∷ taken-is b k refl (hb k) t ∷ []))
 
   pub four-same : (g k n : ℕ) → unclamped 4 g (sumOf (taken a k ∷ taken a n ∷ taken b k ∷ taken b n ∷ [])) ≡ unclamped 4 g (sumOf (entry a k ∷ entry a n ∷ entry b k ∷ entry b n ∷ []))
-  four-same g k n = λ t. unclamped 4 g (sumOf (taken-is a ha k t ∷ taken-is a ha n t ∷ taken-is b hb k t ∷ taken-is b hb n t ∷ []))
+  four-same g k n = λ t. unclamped 4 g (sumOf (taken-is a k refl (ha k) t ∷ taken-is a n refl (ha n) t ∷ taken-is b k refl (hb k) t ∷ taken-is b n refl (hb n) t ∷ []))

@@ -1,4 +1,4 @@
--- Red and blue of a row, from rows of readings and of greens. Assumes nothing.
+-- Red and blue of a row, from rows of readings and of greens: what the lists of HalfFill are shown to give. Assumes nothing.
 use Prim.Native.Nat.{ℕ, _+_, _*_}
 use mathlib.Core.Bool.{cond}
 use mathlib.Core.List.{List, [], _∷_}

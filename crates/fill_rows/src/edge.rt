@@ -2,9 +2,8 @@ ghost use mathlib.Core.Path.{_≡_};
 ghost use Prim.Native.Nat.{_+_, _*_, _≤_, _<_};
 ghost use lib.ListN.{length};
 ghost use Rattle.lists.specs.Table.{table};
-ghost use Rattle.lists.specs.Bound.{AllWithin};
 ghost use Rattle.fill_rows.specs.FillRow.{colourDifferenceAt};
-ghost use Rattle.fill_rows.specs.HalfFill.{pixels, edged};
+ghost use Rattle.fill_rows.specs.HalfFill.{places, edged};
 use demosaic::fill::colour_difference;
 
 // The colour differences at every second column, from the first on.
@@ -19,13 +18,17 @@ fn differences(x: &[u16], g: &[u16], out: &mut [i32])
     }
 }
 
-// Those of a row at its red or blue pixels, and once more at the ends. What the mirrors read beside the first and the last column is there.
+// Those of a row at its red or blue pixels; the first and the last stand once more, at the ends, where the mirrors read beside the first and the last column.
+// A row with a pixel less has the last a third time, so that all rows have lists of one length.
 pub fn edged(x: &[u16], g: &[u16], side: usize, out: &mut [i32])
-    requires { ⌜ (side < 2) × (2 ≤ length (now x)) × (length (now x) ≤ 4096) × (length (now g) ≡ length (now x)) × (length (now out) ≡ pixels (length (now x)) side + 2) ⌝ }
-    ensures { λ _. ⌜ (now (out .exit) ≡ edged side (now (x .entry)) (now (g .entry))) × (AllWithin 1048560 (now (out .exit))) ⌝ }
+    requires { ⌜ (side < 2) × (2 ≤ length (now x)) × (length (now x) ≤ 4096) × (length (now g) ≡ length (now x)) × (length (now out) ≡ places (length (now x))) ⌝ }
+    ensures { λ _. ⌜ now (out .exit) ≡ edged (length (now (x .entry))) side (now (x .entry)) (now (g .entry)) ⌝ }
 {
-    let end = out.len() - 1;
+    let m = (x.len() + 1 - side) / 2;
+    let end = m + 1;
+    let last = out.len() - 1;
     differences(&x[side..], &g[side..], &mut out[1..end]);
     out[0] = out[1];
-    out[end] = out[end - 1];
+    out[end] = out[m];
+    out[last] = out[m];
 }

@@ -14,7 +14,7 @@ use Rattle.gbtf.specs.Machine.{Fitting}
 use Rattle.gbtf.specs.Weights.{scale}
 use Rattle.fusion.proofs.MeanLaws.{mean-small}
 use Rattle.fusion.proofs.LiftLaws.{lowered}
-use Rattle.fusion.proofs.FusionLaws.{Told, Fuses, fuses}
+use Rattle.fusion.proofs.FusionLaws.{Told, fuses}
 
 told : (T m : ℕ) (d : Direction) → Fitting T d → Told T m d (share scale m (guardedSum d)) (up (d .five) + 32768 * T - down (d .five))
 told T m d h = record {

@@ -3,7 +3,7 @@ use mathlib.Core.Bool.{Bool, true, false}
 use mathlib.Core.Path.{_≡_, refl, _∙_, ap}
 use Prim.Native.Nat.{ℕ}
 use native.Mathlib.Omega.{arith}
-use lib.IntN.{ℤ, natAbs, negℤ, _-ℤ_}
+use lib.IntN.{ℤ, natAbs, _-ℤ_}
 use Rattle.whole.proofs.Pairs.{anyₚ, negₚ, _-ₚ_, eq-by}
 use Rattle.whole.proofs.Magnitudes.{abs-neg}
 use Rattle.gbtf.specs.Difference.{difference, plainGradient, turned}

@@ -1,7 +1,7 @@
 ghost use mathlib.Core.Path.{_≡_};
-ghost use mathlib.Core.Bool.{false};
+ghost use mathlib.Core.Bool.{true, false};
 ghost use Prim.Native.Nat.{_≤_};
-ghost use lib.IntN.{natAbs, _-ℤ_};
+ghost use lib.IntN.{natAbs, negℤ, _-ℤ_};
 ghost use Rattle.gbtf.specs.Bounds.{mostDifference};
 ghost use Rattle.gbtf.specs.Difference.{difference, plainGradient};
 ghost use Rattle.gbtf.specs.Machine.{Readings};
@@ -13,6 +13,7 @@ ghost use Rattle.gbtf.specs.Machine.{Readings};
 pub fn difference(c: u16, l: u16, r: u16, p: u16, q: u16) -> i16
     requires { ⌜ Readings c l r p q ⌝ }
     ensures { λ d. ⌜ d ≡ difference false c l r p q ⌝ }
+    ensures { λ d. ⌜ negℤ d ≡ difference true c l r p q ⌝ }
 {
     // Equation 4, (R(i, j-1) + R(i, j+1)) / 2: the two neighbours.
     let neighbours = 2 * (l as i32 + r as i32);

@@ -10,7 +10,7 @@ use crate::block::green_block;
 use bayer::frame::Frame;
 
 // The rows of a block: more would make the buffers larger and save little.
-fn block_size(n: usize) -> usize
+pub fn block_size(n: usize) -> usize
     ensures { λ b. ⌜ b ≡ min n 8 ⌝ }
 {
     if n < 8 { n } else { 8 }

@@ -42,7 +42,10 @@ module _ (step : ℕ) (x : List ℕ) (n : ℕ) (h : AllAtMost 4095 x) where
   differences-apart-in k =
       elim (decLe (suc (k + 2 * step)) n) [
         | yes l ↦ le-trans (le-of-eq (ap₂ plainGradient (getD-table _ n k (pos 0) (omega arith)) (getD-table _ n (k + 2 * step) (pos 0) l ∙ on))) (differences-apart (h _) (h _) (h _) (h _) (h _) (h _) (h _))
-        | no l ↦ le-trans (le-of-eq (ap (plainGradient (getD (table (differenceIn step x) n) k (pos 0))) (List·getD-eq-default (table (differenceIn step x) n) (pos 0) {n = k + 2 * step} (rw (length-table (differenceIn step x) n) (omega arith))) ∙ less-0 (getD (table (differenceIn step x) n) k (pos 0)))) (differences-within k)
+        | no l ↦
+            let d : List ℤ = table (differenceIn step x) n in
+            le-trans (le-of-eq (ap (plainGradient (getD d k (pos 0))) (List·getD-eq-default d (pos 0) {n = k + 2 * step} (rw (length-table (differenceIn step x) n) (omega arith))) ∙ less-0 (getD d k (pos 0))))
+            (differences-within k)
       ]
     where
       -- two places on, of the same readings

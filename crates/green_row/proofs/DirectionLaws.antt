@@ -1,6 +1,5 @@
 -- The sums of the four directions, as the passes over a row work them out and leave them. Assumes nothing.
-use Prim.Native.Nat.{ℕ, zero, suc, _+_, _-_, _*_, _/_, _%_, _≤_, _<_}
-use mathlib.Core.Bool.{cond}
+use Prim.Native.Nat.{ℕ, zero, suc, _+_, _-_, _*_, _/_, _≤_, _<_}
 use mathlib.Core.List.{List, [], _∷_}
 use mathlib.Core.Path.{_≡_, refl, ap, ap₂, _∙_}
 use native.Mathlib.Nat.{le-trans, le-of-eq}
@@ -29,7 +28,7 @@ use Rattle.gbtf.proofs.PixelBounds.{five-sum-within}
 use Rattle.gbtf.proofs.Signs.{abs-turned}
 use Rattle.gbtf.proofs.GreenLocal.{five-sum-same}
 use Rattle.green_row.specs.Directions.{windowIn, after, before, reversed, fiveIn, directionIn, directionFrom}
-use Rattle.green_row.specs.GreenIn.{fusedBy, greenIn}
+use Rattle.green_row.specs.GreenIn.{fusedBy, greenBy, greenIn}
 use Rattle.green_row.proofs.BufferBounds.{window-at-most}
 
 -- the same place, named otherwise
@@ -135,7 +134,7 @@ module _ (K : ℕ) (ws : List ℕ) (s odd : ℕ) (x : List ℕ) (dh dv : List �
 
   -- green of the row, from what fusion adds at its red and blue pixels
   pub row-from-sums : {n T : ℕ} {t : List ℕ} {f r : List ℤ} → n ≡ pixels → T ≡ total ws → t ≡ sums ws s odd n dh dv gh → f ≡ fives ws s odd n dh dv gh → r ≡ table (λ i. fusedBy K T (directionFrom n half t tv f i)) n
-      → table (λ j. cond (isOdd (j + odd)) (16 * getD x j 0) (clamp (pos (16 * getD x j 0) +ℤ getD r (j / 2) (pos 0)))) (length x) ≡ table (greenIn K ws s odd x dh dv gh tv) (length x)
+      → table (greenBy odd x (λ j. getD r (j / 2) (pos 0))) (length x) ≡ table (greenIn K ws s odd x dh dv gh tv) (length x)
   unfolding greenIn
   row-from-sums {n} e p q d a =
       rw (a, d, q, p)

@@ -95,7 +95,7 @@ module _ {m : Mosaic} {v w s o : ℕ} {own : List ℕ} {dh dv : List ℤ} {gh gv
       ∙ ap (λ y. GV m (subℕ y 6) (subℕ (j + 6 + e) 7)) (let d : v + (i + r + 4) ≡ p + r = omega arith in d))
       ∙ ap (λ z. window (GV m) (subℕ p 6) z) (eq-by (subₚ (j + 6) 7) (natₚ j -ₚ natₚ 1) (omega arith))
 
-  -- one of the direction sums along the column, q rows of the picture's pairs down
+  -- one of the direction sums along the column, 2 q rows of tv down
   tv-sum : (q p : ℕ) → q < 2 → p ≡ v + (2 * q + 4) → getD tv (2 * q * h + j / 2) 0 ≡ directionSum (window (GV m) (subℕ p 6) (pos j -ℤ pos 1))
   tv-sum q p l e =
       z .tv-at q (j / 2) l (omega arith)
@@ -106,12 +106,14 @@ module _ {m : Mosaic} {v w s o : ℕ} {own : List ℕ} {dh dv : List ℤ} {gh gv
 
   east-is : directionIn ws s h dh dv gh tv j 0 ≡ east ws m (pos v) (pos j)
   east-is = ap₂ direction
-      (five-sum-same ws _ _ (λ k l. (let a : s + (j + 7) + k * 1 ≡ 1 * s + (j + 5 + k + 2) = omega arith in ap (λ n. turned (isOdd k) (getD dh n (pos 0))) a) ∙ z .dh-at 1 (j + 5 + k) k (lit≤ tt) (omega arith) (omega arith) ∙ ap₂ (DH m) here (onward k)))
+      (five-sum-same ws _ _ (λ k l. (let a : s + (j + 7) + k * 1 ≡ 1 * s + (j + 5 + k + 2) = omega arith in ap (λ n. turned (isOdd k) (getD dh n (pos 0))) a)
+      ∙ z .dh-at 1 (j + 5 + k) k (lit≤ tt) (omega arith) (omega arith) ∙ ap₂ (DH m) here (onward k)))
       (ap directionSum (gh-window (j + 5) (j + 3) (omega arith) (omega arith) ∙ ap (window (GH m) (pos v -ℤ pos 1)) (eq-by (subₚ (j + 3 + 4) 7) (natₚ j) (omega arith))))
 
   west-is : directionIn ws s h dh dv gh tv j 1 ≡ west ws m (pos v) (pos j)
   west-is = ap₂ direction
-      (five-sum-same ws _ _ (λ k l. (let a : s + (j + 7) - k * 1 ≡ 1 * s + (j + 5 - k + 2) = omega arith in ap (λ n. turned (isOdd k) (getD dh n (pos 0))) a) ∙ z .dh-at 1 (j + 5 - k) k (lit≤ tt) (omega arith) (omega arith) ∙ ap₂ (DH m) here (back k l)))
+      (five-sum-same ws _ _ (λ k l. (let a : s + (j + 7) - k * 1 ≡ 1 * s + (j + 5 - k + 2) = omega arith in ap (λ n. turned (isOdd k) (getD dh n (pos 0))) a)
+      ∙ z .dh-at 1 (j + 5 - k) k (lit≤ tt) (omega arith) (omega arith) ∙ ap₂ (DH m) here (back k l)))
       (ap directionSum (gh-window (j + 3) (j + 1) (omega arith) (omega arith) ∙ ap (window (GH m) (pos v -ℤ pos 1)) (eq-by (subₚ (j + 1 + 4) 7) (natₚ j -ₚ natₚ 2) (omega arith))))
 
   north-is : directionIn ws s h dh dv gh tv j 2 ≡ north ws m (pos v) (pos j)
@@ -130,7 +132,8 @@ module _ {m : Mosaic} {v w s o : ℕ} {own : List ℕ} {dh dv : List ℤ} {gh gv
       ∙ ap₂ (DV m) (eq-by (subₚ (v + (4 + k + 2)) 6) (natₚ v +ₚ natₚ k) (omega arith)) (at-place j 7)))
       (tv-sum 1 (v + 6) (lit≤ tt) refl ∙ ap (λ z. directionSum (window (GV m) z (pos j -ℤ pos 1))) (at-place v 6))
 
-  red-is : (K : ℕ) → clamp (pos (16 * getD own j 0) +ℤ fusedBy K (total ws) (directionIn ws s h dh dv gh tv j)) ≡ green K (total ws) (m .reading (pos v) (pos j)) (east ws m (pos v) (pos j)) (west ws m (pos v) (pos j) ∷ north ws m (pos v) (pos j) ∷ south ws m (pos v) (pos j) ∷ [])
+  red-is : (K : ℕ) → clamp (pos (16 * getD own j 0) +ℤ fusedBy K (total ws) (directionIn ws s h dh dv gh tv j))
+      ≡ green K (total ws) (m .reading (pos v) (pos j)) (east ws m (pos v) (pos j)) (west ws m (pos v) (pos j) ∷ north ws m (pos v) (pos j) ∷ south ws m (pos v) (pos j) ∷ [])
   unfolding fusedBy green
   red-is K = λ t. clamp (pos (16 * z .own-at j hj t) +ℤ fused K (total ws) (east-is t) (west-is t ∷ north-is t ∷ south-is t ∷ []))
 
@@ -141,4 +144,5 @@ unfolding greenIn greenAt
 green-is {m} {v} {o = o} z ws j hj K =
     rw (z .own-length)
     (choice-same (j + o) (λ _. ap (λ n. 16 * n) (z .own-at j hj)) (λ red. red-is z ws j hj red K)
-    ∙ ap (λ b. cond b (16 * m .reading (pos v) (pos j)) (green K (total ws) (m .reading (pos v) (pos j)) (east ws m (pos v) (pos j)) (west ws m (pos v) (pos j) ∷ north ws m (pos v) (pos j) ∷ south ws m (pos v) (pos j) ∷ []))) (z .green-at j hj))
+    ∙ ap (λ b. cond b (16 * m .reading (pos v) (pos j)) (green K (total ws) (m .reading (pos v) (pos j)) (east ws m (pos v) (pos j)) (west ws m (pos v) (pos j) ∷ north ws m (pos v) (pos j) ∷ south ws m (pos v) (pos j) ∷ [])))
+    (z .green-at j hj))

@@ -19,6 +19,6 @@ plainGradientIn step d k = plainGradient (getD d k (pos 0)) (getD d (k + 2 * ste
 abbrev pub gradientIn : (step : ℕ) (d : List ℤ) → ℕ → ℕ
 gradientIn step d k = plainGradientIn step d k + plainGradientIn step d (k + step) + plainGradientIn step d (k + 2 * step)
 
--- three plain gradients together are inside 16 bits
+-- differences two places apart are within 16380 of each other, so that three plain gradients together are inside 16 bits
 abbrev pub Apart : (step : ℕ) (d : List ℤ) → Type 0
 Apart step d = (k : ℕ) → plainGradientIn step d k ≤ mostDifference

@@ -20,6 +20,10 @@ after step d p k = getD d (p + k * step) (pos 0)
 abbrev pub before : (step : ℕ) (d : List ℤ) (p : ℕ) → ℕ → ℤ
 before step d p k = getD d (p - k * step) (pos 0)
 
+-- place p of five lists
+abbrev pub across : (a b c d e : List ℤ) (p : ℕ) → ℕ → ℤ
+across a b c d e p k = getD (getD a p (pos 0) ∷ getD b p (pos 0) ∷ getD c p (pos 0) ∷ getD d p (pos 0) ∷ getD e p (pos 0) ∷ []) k (pos 0)
+
 -- The buffers are drawn in green_blocks/specs/Block. Direction 0 is east, 1 west, 2 north, and every one from 3 on south. dh and gh hold the differences and gradients along the row, of the row before, the row and the row after;
 -- dv holds the differences along the column of the four rows before to the four rows after. Place j + 7 of a row of dh and dv is column j. gh starts two places later: its place j + 5 is column j.
 -- tv holds three rows of h direction sums, of gradients along the column: of windows about pixels of the row before, of the row, and of the row after.

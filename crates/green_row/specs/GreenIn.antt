@@ -15,7 +15,10 @@ use Rattle.green_row.specs.Directions.{directionIn}
 unfoldable pub fusedBy : (K T : ℕ) (D : ℕ → Direction) → ℤ
 fusedBy K T D = fused K T (D 0) (D 1 ∷ D 2 ∷ D 3 ∷ [])
 
--- green at column j of a row of readings x, of which column j is green where j + odd is odd, from the differences, the gradients and the direction sums along the column
+-- green at column j of a row of readings x, of which column j is green where j + odd is odd, from what fusion adds at the others
+abbrev pub greenBy : (odd : ℕ) (x : List ℕ) (added : ℕ → ℤ) (j : ℕ) → ℕ
+greenBy odd x added j = cond (isOdd (j + odd)) (16 * getD x j 0) (clamp (pos (16 * getD x j 0) +ℤ added j))
+
+-- where that is by the differences, the gradients and the direction sums along the column
 unfoldable pub greenIn : (K : ℕ) (ws : List ℕ) (s odd : ℕ) (x : List ℕ) (dh dv : List ℤ) (gh tv : List ℕ) (j : ℕ) → ℕ
-greenIn K ws s odd x dh dv gh tv j =
-    cond (isOdd (j + odd)) (16 * getD x j 0) (clamp (pos (16 * getD x j 0) +ℤ fusedBy K (total ws) (directionIn ws s ((length x + 1) / 2) dh dv gh tv j)))
+greenIn K ws s odd x dh dv gh tv j = greenBy odd x (λ i. fusedBy K (total ws) (directionIn ws s ((length x + 1) / 2) dh dv gh tv i)) j

@@ -1,17 +1,16 @@
 ghost use mathlib.Core.Path.{_≡_};
-ghost use mathlib.Core.Bool.{cond};
 ghost use Prim.Native.Nat.{_+_, _*_, _-_, _/_, _≤_, _<_};
-ghost use lib.IntN.{pos, natAbs, _+ℤ_};
+ghost use lib.IntN.{pos, _+ℤ_};
 ghost use lib.ListN.{length, getD};
 ghost use Rattle.whole.specs.Clamp.{clamp};
 ghost use Rattle.lists.specs.Table.{table};
 ghost use Rattle.lists.specs.Bound.{AllAtMost, AllWithin};
-ghost use Rattle.bayer.specs.Parity.{isOdd};
+ghost use Rattle.half_rows.specs.HalfRow.{pixels};
 ghost use Rattle.gbtf.specs.Bounds.{mostDifference, mostGradient, mostSum};
 ghost use Rattle.gbtf.specs.Direction.{direction};
 ghost use Rattle.gbtf.specs.Weights.{scale, weightsOf};
 ghost use Rattle.green_row.specs.Directions.{directionFrom};
-ghost use Rattle.green_row.specs.GreenIn.{fusedBy, greenIn};
+ghost use Rattle.green_row.specs.GreenIn.{fusedBy, greenBy, greenIn};
 use crate::directions::row_fives;
 use crate::sums::sums;
 use fusion::pixel::fusion;
@@ -74,8 +73,8 @@ fn estimated(x: &[u16], r: &[i32], out: &mut [u16])
 // Green of a row of readings x, where r is what fusion adds at its red and blue pixels. p and q are room for the half rows of these and of the others.
 fn green_row(x: &[u16], odd: usize, r: &[i32], p: &mut [u16], q: &mut [u16], out: &mut [u16])
     requires { ⌜ (odd < 2) × (AllAtMost 4095 (now x)) × (0 < length (now x)) × (length (now x) ≤ 4096) × (length (now out) ≡ length (now x)) ⌝ }
-    requires { ⌜ (length (now p) ≡ (length (now x) + 1 - odd) / 2) × (length (now p) + length (now q) ≡ length (now x)) × (length (now r) ≡ length (now p)) × (AllWithin 131072 (now r)) ⌝ }
-    ensures { λ _. ⌜ now (out .exit) ≡ table (λ j. cond (isOdd (j + odd)) (16 * getD (now (x .entry)) j 0) (clamp (pos (16 * getD (now (x .entry)) j 0) +ℤ getD (now (r .entry)) (j / 2) (pos 0)))) (length (now (x .entry))) ⌝ }
+    requires { ⌜ (length (now p) ≡ pixels (length (now x)) odd) × (length (now p) + length (now q) ≡ length (now x)) × (length (now r) ≡ length (now p)) × (AllWithin 131072 (now r)) ⌝ }
+    ensures { λ _. ⌜ now (out .exit) ≡ table (greenBy odd (now (x .entry)) (λ j. getD (now (r .entry)) (j / 2) (pos 0))) (length (now (x .entry))) ⌝ }
 {
     let other = 1 - odd;
     estimated(&x[odd..], r, p);
@@ -103,7 +102,7 @@ fn fuse(
     requires { ⌜ (odd < 2) × (AllAtMost 4095 (now x)) × (0 < length (now x)) × (length (now out) ≡ length (now x)) ⌝ }
     requires { ⌜ (length (now x) + 14 ≤ s) × (s ≤ 4110) × (length (now dh) ≡ 3 * s) × (length (now dv) ≡ 9 * s) × (length (now gh) + 4 ≡ 3 * s) × (length (now tv) ≡ 3 * ((length (now x) + 1) / 2)) ⌝ }
     requires { ⌜ (AllWithin mostDifference (now dh)) × (AllWithin mostDifference (now dv)) × (AllAtMost mostGradient (now gh)) × (AllAtMost mostSum (now tv)) ⌝ }
-    requires { ⌜ (length (now r) ≡ (length (now x) + 1 - odd) / 2)
+    requires { ⌜ (length (now r) ≡ pixels (length (now x)) odd)
         × (length (now t) ≡ length (now r) + 1)
         × (length (now f) ≡ 4 * length (now r))
         × (length (now p) ≡ length (now r))

@@ -4,7 +4,7 @@ ghost use Prim.Native.Nat.{_+_, _*_, _≤_, _<_};
 ghost use lib.ListN.{length};
 ghost use Rattle.lists.specs.Table.{table};
 ghost use Rattle.gbtf.specs.Direction.{directionSum, alternating, fiveSum};
-ghost use Rattle.green_row.specs.Directions.{windowIn, after};
+ghost use Rattle.green_row.specs.Directions.{windowIn, after, across};
 use gbtf::direction::direction_sum;
 use gbtf::direction::five_sum;
 
@@ -34,31 +34,55 @@ pub fn sums(g: &[u16], s: usize, at: usize, out: &mut [u32])
     }
 }
 
-// The five-sum of places p, p + step, ..
-fn five_at(weights: [u8; 5], d: &[i16], step: usize, p: usize) -> i32
-    requires { ⌜ p + 4 * step < length (now d) ⌝ }
-    ensures { λ r. ⌜ r ≡ fiveSum weights (alternating (after step (now (d .entry)) p)) ⌝ }
+// The five-sum of place p of five lists.
+fn five_at(weights: [u8; 5], a: &[i16], b: &[i16], c: &[i16], d: &[i16], e: &[i16], p: usize) -> i32
+    requires { ⌜ (p < length (now a)) × (p < length (now b)) × (p < length (now c)) × (p < length (now d)) × (p < length (now e)) ⌝ }
+    ensures { λ r. ⌜ r ≡ fiveSum weights (alternating (across (now (a .entry)) (now (b .entry)) (now (c .entry)) (now (d .entry)) (now (e .entry)) p)) ⌝ }
 {
-    five_sum(
-        weights,
-        [
-            d[p],
-            d[p + step],
-            d[p + 2 * step],
-            d[p + 3 * step],
-            d[p + 4 * step],
-        ],
-    )
+    five_sum(weights, [a[p], b[p], c[p], d[p], e[p]])
 }
 
-// The five-sums of every second place from place `at` on, each of places `step` apart.
+// The five-sums of every second place of five lists, from the first on.
+fn fives_across(
+    weights: [u8; 5],
+    a: &[i16],
+    b: &[i16],
+    c: &[i16],
+    d: &[i16],
+    e: &[i16],
+    out: &mut [i32],
+)
+    requires { ⌜ (2 * length (now out) ≤ length (now a) + 1)
+        × (2 * length (now out) ≤ length (now b) + 1)
+        × (2 * length (now out) ≤ length (now c) + 1)
+        × (2 * length (now out) ≤ length (now d) + 1)
+        × (2 * length (now out) ≤ length (now e) + 1) ⌝ }
+    ensures { λ _. ⌜ now (out .exit) ≡ table (λ k. fiveSum weights (alternating (across (now (a .entry)) (now (b .entry)) (now (c .entry)) (now (d .entry)) (now (e .entry)) (2 * k)))) (length (now (out .entry))) ⌝ }
+{
+    let mut k = 0;
+    while k < out.len() {
+        out[k] = five_at(weights, a, b, c, d, e, 2 * k);
+        k += 1;
+    }
+}
+
+// The five-sums of every second place of d from place `at` on, each of places `step` apart. Five lists that start where the first sum reads them
+// leave the loop one number to step by.
 pub fn fives(weights: [u8; 5], d: &[i16], step: usize, at: usize, out: &mut [i32])
     requires { ⌜ at + 2 * length (now out) + 4 * step ≤ length (now d) ⌝ }
     ensures { λ _. ⌜ now (out .exit) ≡ table (λ k. fiveSum weights (alternating (after step (now (d .entry)) (at + 2 * k)))) (length (now (out .entry))) ⌝ }
 {
-    let mut k = 0;
-    while k < out.len() {
-        out[k] = five_at(weights, d, step, at + 2 * k);
-        k += 1;
-    }
+    let second = at + step;
+    let third = second + step;
+    let fourth = third + step;
+    let fifth = fourth + step;
+    fives_across(
+        weights,
+        &d[at..],
+        &d[second..],
+        &d[third..],
+        &d[fourth..],
+        &d[fifth..],
+        out,
+    );
 }

@@ -1,10 +1,10 @@
 // Rows worked out at every second column.
 ghost use mathlib.Core.Path.{_≡_};
-ghost use Prim.Native.Nat.{_+_, _*_, _-_, _/_, _≤_, _<_};
+ghost use Prim.Native.Nat.{_+_, _*_, _/_, _≤_, _<_};
 ghost use lib.ListN.{length, getD};
 ghost use Rattle.lists.specs.Table.{table};
 ghost use Rattle.lists.specs.Bound.{AllAtMost};
-ghost use Rattle.half_rows.specs.HalfRow.{interleaved};
+ghost use Rattle.half_rows.specs.HalfRow.{pixels, interleaved};
 
 // 16 times every second reading, from the first on.
 pub fn observed(x: &[u16], out: &mut [u16])
@@ -37,7 +37,7 @@ fn join(e: &[u16], o: &[u16], out: &mut [u16])
 
 // p at the columns side, side + 2, .., q at the others.
 pub fn interleave(side: usize, p: &[u16], q: &[u16], out: &mut [u16])
-    requires { ⌜ (side < 2) × (length (now out) ≡ length (now p) + length (now q)) × (length (now p) ≡ (length (now out) + 1 - side) / 2) ⌝ }
+    requires { ⌜ (side < 2) × (length (now out) ≡ length (now p) + length (now q)) × (length (now p) ≡ pixels (length (now out)) side) ⌝ }
     ensures { λ _. ⌜ now (out .exit) ≡ table (interleaved side (now (p .entry)) (now (q .entry))) (length (now (out .entry))) ⌝ }
 {
     if side == 0 {

@@ -51,6 +51,10 @@ module _ {A : Type 0} where
   pub getD-part : (a k : ℕ) (l : List A) (j : ℕ) (d : A) → j < k → getD (part a k l) j d ≡ getD l (a + j) d
   getD-part a k l j d h = getD-take k (drop a l) j d h ∙ getD-drop a l j d
 
+  -- of all from the a-th on
+  pub getD-from : (a : ℕ) (l : List A) (k n : ℕ) (d : A) → a + k < length l → a + k ≡ n → getD (part a (length l - a) l) k d ≡ getD l n d
+  getD-from a l k n d h e = getD-part a (length l - a) l k d (omega arith) ∙ ap (λ i. getD l i d) e
+
   -- a part of a part
   pub part-part : (a k b n : ℕ) (l : List A) → a + k ≤ n → part a k (part b n l) ≡ part (b + a) k l
   part-part a k b n l h = part-take a k n (drop b l) h ∙ ap (take k) (drop-drop a b l)

@@ -1,11 +1,11 @@
--- What is read of a file decides what is printed of it. Assumes nothing.
-use Prim.Native.Nat.{ℕ, _≤_, _<_}
-use mathlib.Core.Path.{_≡_, sym, ap, subst, _∙_}
+-- What is read of a file decides what is printed of it, and which bytes these are. Assumes nothing.
+use Prim.Native.Nat.{ℕ, _+_, _≤_, _<_}
+use mathlib.Core.Path.{_≡_, refl, sym, ap, subst, _∙_}
 use mathlib.Core.List.{List}
 use native.Mathlib.Decide.{decLe}
 use native.Mathlib.Omega.{arith}
-use lib.ListN.{length, take, length-take}
-use lib.Seq.{take-all}
+use lib.ListN.{length, take, drop, length-take}
+use lib.Seq.{take-all, take-at}
 use Rattle.plane_text.specs.Written.{Answered}
 
 -- a program that prints the same of all files of more than `most` bytes
@@ -26,3 +26,10 @@ module _ (output : List ℕ → List ℕ) (most : ℕ) (line : List ℕ) (long :
 
 pub answered-most : {text before after : List ℕ} {end : ℕ} → Answered text before after end → end ≤ 105
 answered-most {before = before} a = elim (decLe 105 (length before)) [ yes h ↦ a .written h .1 | no h ↦ omega (arith, a .short (omega arith) .0) ]
+
+-- its bytes, in a buffer that has room for it
+pub answered-bytes : {text before after : List ℕ} {end : ℕ} → Answered text before after end → 105 ≤ length before → take end after ≡ text
+answered-bytes {text} {before} a h =
+    let w = a .written h .0 in
+    let e : 0 + length text ≡ length text = omega arith in
+    rw (w .until, w .bytes, e) (take-at text (drop (length text) before) (length text) refl)

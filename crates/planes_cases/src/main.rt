@@ -2,7 +2,6 @@
 // that program prints for each. tools/planes_cases.py makes them, and from another implementation what is to be printed.
 ghost use Prim.Native.Nat.{_≤_};
 use frame_file::answer;
-use frame_program::print;
 use test_bytes::answer as test_answer;
 
 fn answer_of(program: u8, bytes: &[u8], out: &mut [u8]) -> usize
@@ -17,7 +16,7 @@ fn answer_of(program: u8, bytes: &[u8], out: &mut [u8]) -> usize
 fn print_answer(program: u8, bytes: &[u8]) {
     let mut out = [0u8; 105];
     let size = answer_of(program, bytes, &mut out);
-    print(&out, size);
+    io::write_all(1, &out[..size]);
 }
 
 fn wide(x: u8) -> usize

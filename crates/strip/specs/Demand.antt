@@ -29,7 +29,7 @@ numberOf c = stripNumber (c .asked) (c .size Red) (c .size Green) (c .size Blue)
 abbrev pub Accepted : StripCall → Type 0
 Accepted c = numberOf c ≡ 0
 
--- of an accepted call: it names f's width, height and layout, whatever its smoothing, brings its rows of `readings`, and is lent its own rows of each plane
+-- of an accepted call: it names f's width, height and layout, whatever its smoothing, brings its rows of `readings`, and what it is lent of each plane starts where its first row does; as accepted, it is lent n × W samples
 pub record OfMosaic (f : Frame) (readings : List ℕ) (c : StripCall) : Type 0 where
   pub frame : c .asked .frame ≡ smoothed (f .width) (f .height) (f .layout) (c .asked .frame .smoothing)
   pub piece : c .asked .piece ≡ pieceOf (f .width) (f .height) (c .asked .first) (c .asked .count) readings
@@ -39,6 +39,11 @@ pub record OfMosaic (f : Frame) (readings : List ℕ) (c : StripCall) : Type 0 w
 pub record OfFrame (f : Frame) (readings : List ℕ) (c : StripCall) : Type 0 where
   pub mosaic : OfMosaic f readings c
   pub smoothing : c .asked .frame .smoothing ≡ f .smoothing
+
+-- of any call of a list of demand 3: accepted, it is of the frame; and it is lent parts of planes of the frame's size
+pub record Callable (f : Frame) (readings : List ℕ) (c : StripCall) : Type 0 where
+  pub premise : Accepted c → OfFrame f readings c
+  pub inside : (k : Colour) → c .from k + c .size k ≤ f .width * f .height
 
 -- a call finds the planes p and leaves q. Nothing but its contract is known of it, and the premise is asked of accepted calls only: `OfFrame f readings` for demand 3, `OfMosaic f readings` where smoothings may differ
 pub record Called (Premise : StripCall → Type 0) (c : StripCall) (p q : Planes) : Type 0 where

@@ -1,3 +1,4 @@
 pub mod GreenAmong
 pub mod ColourRow
+pub mod ColourBlock
 pub mod PlanesFromRows

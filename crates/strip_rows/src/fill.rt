@@ -1,8 +1,9 @@
 ghost use mathlib.Core.Path.{_≡_};
-ghost use Prim.Native.Nat.{_+_, _≤_};
+ghost use Prim.Native.Nat.{_*_, _≤_};
 ghost use lib.ListN.{length};
 ghost use Rattle.bayer.specs.Piece.{pieceStart};
 ghost use Rattle.green_blocks.specs.Room.{Room};
+ghost use Rattle.fill_rows.specs.HalfFill.{places};
 ghost use Rattle.strip_rows.specs.StripRows.{Readable, Sized, Filled};
 use crate::colours::colour_planes;
 use crate::greens::greens;
@@ -35,7 +36,7 @@ fn fill_planes_in(
     requires { ⌜ (Room (frame .width) (length (now x)) (length (now d)) (length (now g)) (length (now tv)) (length (now t)) (length (now f)) (length (now r)) (length (now p)) (length (now q)))
         × (length (now above) ≡ frame .width)
         × (length (now below) ≡ frame .width)
-        × (frame .width + 5 ≤ length (now f)) ⌝ }
+        × (10 * places (frame .width) ≤ length (now f)) ⌝ }
     ensures { λ _. ⌜ Filled frame a n (now (piece .entry)) (now (red .exit)) (now (green .exit)) (now (blue .exit)) ⌝ }
 {
     let start = piece_start(a);
@@ -100,7 +101,7 @@ pub fn fill_planes(
     requires { ⌜ (Room (frame .width) (length (now x)) (length (now d)) (length (now g)) (length (now tv)) (length (now t)) (length (now f)) (length (now r)) (length (now p)) (length (now q)))
         × (frame .width ≤ length (now above))
         × (frame .width ≤ length (now below))
-        × (frame .width + 5 ≤ length (now f)) ⌝ }
+        × (10 * places (frame .width) ≤ length (now f)) ⌝ }
     ensures { λ _. ⌜ Filled frame a n (now (piece .entry)) (now (red .exit)) (now (green .exit)) (now (blue .exit)) ⌝ }
 {
     let w = frame.width;

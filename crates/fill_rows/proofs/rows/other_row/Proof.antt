@@ -1,54 +1,80 @@
 -- `fill_rows::rows::other_row` meets its contract. Assumes nothing.
-use Prim.Native.Nat.{ℕ, _+_, _-_}
+use Prim.Native.Nat.{ℕ, _-_}
 use native.Mathlib.Omega.{arith}
-use mathlib.Core.Path.{_≡_, sym, ap, ap₂, _∙_}
-use lib.ListN.{length}
-use Rattle.lists.specs.Table.{table}
-use Rattle.fill_rows.specs.HalfFill.{pixels, otherEdged}
-use Rattle.fill_rows.proofs.HalfFillLaws.{edged-length, cut-both, made-both, pixels-others, other-mirrors}
+use mathlib.Core.Path.{_≡_, refl}
+use lib.ListN.{length, take}
+use Rattle.half_rows.specs.HalfRow.{pixels}
+use Rattle.fill_rows.proofs.HalfFillLaws.{within-from, halves-fit, cut-first, cut-second, halves-make, pairs-fit, diagonals-fit, front-fits, front, front-long, other-done}
 use Rattle.fill_rows.proofs.rows.other_row.Statement.{statement}
 use Rattle.fill_rows.proofs.rows.other_row.Tie as tie
 use borrow.Author.Needs.{needs}
 
--- how long a list of the row above, and of the row below, is
-long : (c : tie.Start) → let w = length (c .args .g .now) in (n : ℕ) → n ≡ w → pixels n (1 - c .args .odd) + 2 ≡ w - pixels w (c .args .odd) + 2
-long c n e = ap (λ k. pixels k (1 - c .args .odd) + 2) e ∙ ap (λ k. k + 2) (pixels-others _ _ (c .pre .0 .0) (omega arith))
+-- the entry, and the half rows
+abbrev start : tie.After-diagonals-arg4 → tie.Start
+start c = c .before .before .before .before .before .before .before .before
 
-part-other-from-end-4 : tie.Need-part-other-from-end-4
-part-other-from-end-4 c = omega arith
+abbrev first : tie.After-pairs-arg4 → tie.After-diagonals
+first c = c .before .before .before .before .before .before
 
-other-from-requires : tie.Need-other-from-requires
-other-from-requires c κs =
-    let b = c .before .before .before .before .before .before .before in
-    let a = b .before .before .before in
-    let s = a .before .before .before .before .before .before .before .before .before .before in
-    let p = s .pre in
-    let w = length (s .args .g .now) in
-    let n = w - pixels w (s .args .odd) + 2 in
-    let e = made-both (1 - s .args .odd) (s .args .xa .now) (s .args .ga .now) (s .args .xb .now) (s .args .gb .now) n _ (long s (length (s .args .xa .now)) (p .1 .0 .0)) (long s (length (s .args .xb .now)) (p .1 .0 .2)) (a .edged .ensures) (b .edged2 .ensures) in
-    let la = edged-length (1 - s .args .odd) (s .args .xa .now) (s .args .ga .now) (e .0 .0) ∙ long s (length (s .args .xa .now)) (p .1 .0 .0) in
-    let lb = edged-length (1 - s .args .odd) (s .args .xb .now) (s .args .gb .now) (e .1 .0) ∙ long s (length (s .args .xb .now)) (p .1 .0 .2) in
-    let h = cut-both w (s .args .odd) (s .args .p .now) (s .args .q .now) (p .0 .0) (p .1 .1 .1) (p .1 .1 .2) in
-    let l = sym (ap (λ k. k + 2) (h .2)) in
-    ((p .0 .0, p .0 .1, p .0 .3, e .0 .1, e .1 .1), (h .0, h .1, la ∙ l, lb ∙ l))
+abbrev second : tie.After-interleave-arg3 → tie.After-pairs
+second c = c .before .before .before .before .before .before .before
 
-same-length : tie.Need-same-length
-same-length c = omega arith
+module _ (s : tie.Start) where
+  abbrev w : ℕ
+  w = length (s .args .g .now)
+
+  abbrev m : ℕ
+  m = pixels w (s .args .odd)
+
+  first-cut : length (take (m - 0) (s .args .p .now)) ≡ m
+  first-cut = cut-first w (s .args .odd) (s .pre .0 .0) (s .args .p .now) (s .pre .1 .1 .0)
+
+  second-cut : length (take (w - m - 0) (s .args .q .now)) ≡ w - m
+  second-cut = cut-second w (s .args .odd) (s .pre .0 .0) (s .args .q .now) (s .pre .1 .1 .1)
+
+diagonals-requires : tie.Need-diagonals-requires
+diagonals-requires c κs =
+    let s = start c in
+    let d = s .args .above .now in
+    let e = s .args .below .now in (
+      diagonals-fit (w s) (s .args .odd) (s .pre .0 .0) (s .args .g .now) refl (omega arith) d e (s .pre .0 .3) (s .pre .0 .4) (first-cut s),
+      (within-from _ d (s .pre .1 .0 .0), within-from _ e (s .pre .1 .0 .1)),
+    )
+
+part-pairs-end-4 : tie.Need-part-pairs-end-4
+part-pairs-end-4 c = let s = start (c .before .before .before .before .before .before) in halves-fit (w s) (s .args .odd) (s .pre .0 .0) (length (s .args .q .now)) (s .pre .1 .1 .1) .1
+
+pairs-requires : tie.Need-pairs-requires
+pairs-requires c κs =
+    let s = start (first c .before) in
+    let d = s .args .above .now in
+    let e = s .args .below .now in (
+      pairs-fit (w s) (s .args .odd) (s .pre .0 .0) (s .args .g .now) refl (omega arith) d e (s .pre .0 .3) (s .pre .0 .4) _ _ (omega arith) (omega arith) (second-cut s),
+      (within-from _ d (s .pre .1 .0 .0), within-from _ e (s .pre .1 .0 .1)),
+    )
+
+part-interleave-end : tie.Need-part-interleave-end
+part-interleave-end c = let p = first (c .before .before .before .before) in let s = start (p .before) in front-fits (m s) _ _ (first-cut s) (p .diagonals .ensures)
+
+part-interleave-end-2 : tie.Need-part-interleave-end-2
+part-interleave-end-2 c = let q = c .before .before .before .before .before in let s = start (first (q .before) .before) in front-fits (w s - m s) _ _ (second-cut s) (q .pairs .ensures)
+
+interleave-requires : tie.Need-interleave-requires
+interleave-requires c κs =
+    let q = second c in
+    let p = first (q .before) in
+    let s = start (p .before) in
+    halves-make (w s) (s .args .odd) (s .pre .0 .0) (front-long (m s) _ _ (first-cut s) (p .diagonals .ensures)) (front-long (w s - m s) _ _ (second-cut s) (q .pairs .ensures)) (s .pre .0 .2)
 
 returns : tie.Need-returns
 returns c =
-    let r = c .before .before .before .before .before .before in
-    let b = r .before .before .before .before .before .before .before .before in
-    let a = b .before .before .before in
-    let s = a .before .before .before .before .before .before .before .before .before .before in
-    let p = s .pre in
-    let g = s .args .g .now in
-    let w = length g in
-    let n = w - pixels w (s .args .odd) + 2 in
-    let e = made-both (1 - s .args .odd) (s .args .xa .now) (s .args .ga .now) (s .args .xb .now) (s .args .gb .now) n _ (long s (length (s .args .xa .now)) (p .1 .0 .0)) (long s (length (s .args .xb .now)) (p .1 .0 .2)) (a .edged .ensures) (b .edged2 .ensures) in
-    r .other-from .ensures
-    ∙ ap₂ (λ u d. table (otherEdged (s .args .odd) g u d) w) (e .0 .0) (e .1 .0)
-    ∙ other-mirrors (s .args .odd) g (p .0 .0) (s .args .xa .now) (s .args .ga .now) (s .args .xb .now) (s .args .gb .now) (p .0 .1) (p .1 .0 .0) (p .1 .0 .2)
+    let r = c .before .before in
+    let q = second (r .before) in
+    let p = first (q .before) in
+    let s = start (p .before) in
+    let a = s .args in
+    other-done (a .odd) (a .g .now) (a .above .now) (a .below .now) (s .pre .0 .0) (s .pre .0 .3) (s .pre .0 .4) (s .pre .0 .2)
+    (front (m s) _ _ (first-cut s) (p .diagonals .ensures)) (front (w s - m s) _ _ (second-cut s) (q .pairs .ensures)) (r .interleave .ensures)
 
 -- what else is asked is found
 pub other-row-spec : {M : Type 1} → statement M
@@ -64,13 +90,6 @@ other-row-spec =
     (λ c. search needs)
     (λ c. search needs)
     (λ c. search needs)
-    (λ c κs. search needs)
-    (λ c. search needs)
-    (λ c. search needs)
-    (λ c. search needs)
-    (λ c. search needs)
-    (λ c. search needs)
-    (λ c κs. search needs)
     (λ c. search needs)
     (λ c. search needs)
     (λ c. search needs)
@@ -81,11 +100,28 @@ other-row-spec =
     (λ c. search needs)
     (λ c. search needs)
     (λ c. search needs)
+    diagonals-requires
     (λ c. search needs)
     (λ c. search needs)
-    part-other-from-end-4
-    other-from-requires
-    same-length
+    (λ c. search needs)
+    (λ c. search needs)
+    (λ c. search needs)
+    (λ c. search needs)
+    (λ c. search needs)
+    (λ c. search needs)
+    (λ c. search needs)
+    (λ c. search needs)
+    (λ c. search needs)
+    (λ c. search needs)
+    part-pairs-end-4
+    pairs-requires
+    (λ c. search needs)
+    (λ c. search needs)
+    part-interleave-end
+    (λ c. search needs)
+    (λ c. search needs)
+    part-interleave-end-2
+    interleave-requires
     (λ c. search needs)
     (λ c. search needs)
     (λ c. search needs)

@@ -1,12 +1,12 @@
 -- `fusion::share::share` meets its contract. Assumes nothing.
-use native.Mathlib.Nat.{le-refl, mul-le-mul, mul-pos}
+use native.Mathlib.Nat.{mul-le-mul, mul-pos}
 use Rattle.floats.proofs.Numbers.{numbers}
 use Rattle.fusion.proofs.ShareLaws.{asks, told}
 use Rattle.fusion.proofs.share.share.Statement.{statement}
 use Rattle.fusion.proofs.share.share.Tie as tie
 
 quotient-requires : tie.Need-quotient-requires
-quotient-requires c κs = asks (search numbers) (search numbers) (search mul-pos) (search (mul-le-mul, le-refl))
+quotient-requires c κs = asks (search numbers) (search numbers) (search mul-pos) (search mul-le-mul)
 
 returns : tie.Need-returns
 returns c = let q = c .quotient .ensures in (q .0, told (q .1) (search numbers) (search numbers))

@@ -1,10 +1,10 @@
 -- `gbtf::difference::difference` meets its contract: no step wraps, and the steps come to the difference, which 16 bits hold for readings. Assumes nothing.
 use Prim.Native.Nat.{_+_}
 use native.Mathlib.Omega.{arith}
-use mathlib.Core.Bool.{false}
-use mathlib.Core.Path.{_≡_}
+use mathlib.Core.Bool.{true, false}
+use mathlib.Core.Path.{_≡_, ap, _∙_}
 use lib.Dec.{lit<}
-use lib.IntN.{ℤ}
+use lib.IntN.{ℤ, negℤ}
 use mir.Syntax.{w16}
 use mir.Val.{SFits, ofZ, toZ}
 use Rattle.whole.proofs.Magnitudes.{fits-within}
@@ -13,6 +13,7 @@ use Rattle.whole.proofs.Signed.{back}
 use Rattle.whole.proofs.Small.{Small, small, equal}
 use Rattle.gbtf.specs.Difference.{difference}
 use Rattle.gbtf.proofs.PixelBounds.{differenceₚ, difference-within}
+use Rattle.gbtf.proofs.Signs.{difference-turned}
 use Rattle.gbtf.proofs.difference.difference.Statement.{statement}
 use Rattle.gbtf.proofs.difference.difference.Tie as tie
 use borrow.Author.Needs.{needs}
@@ -38,9 +39,16 @@ cast-result-2 : tie.Need-cast-result-2
 unfolding difference
 cast-result-2 c = let f = c .fits in fits c (search (small, f .c, f .l, f .r, f .p, f .q) depth 20) (omega arith)
 
+-- and turned, it is that of a green centre
 returns : tie.Need-returns
 unfolding difference
-returns c = let f = c .fits in narrowed c (cast-result-2 c) (search (small, f .c, f .l, f .r, f .p, f .q) depth 20) (omega arith)
+returns c =
+    let f = c .fits in
+    let a = c .args in
+    both (difference-turned true (a .c) (a .l) (a .r) (a .p) (a .q)) (narrowed c (cast-result-2 c) (search (small, f .c, f .l, f .r, f .p, f .q) depth 20) (omega arith))
+  where
+    both : {d e z : ℤ} → negℤ d ≡ e → z ≡ d → (z ≡ d) × (negℤ z ≡ e)
+    both t h = (h, ap negℤ h ∙ t)
 
 -- what each other cast and each operation asks is found
 pub difference-spec : {M : Type 1} → statement M

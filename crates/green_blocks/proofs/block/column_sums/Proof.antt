@@ -26,7 +26,8 @@ abbrev start : tie.In-loop Inv-loop μ-loop → tie.Start Inv-loop μ-loop
 start c = c .before .before .before .before
 
 -- row i lies in tv, and its windows in gv
-inside : (c : tie.In-loop Inv-loop μ-loop) → let a = start c .args in let i = c .before .loop .i in (i * ((a .w + 1) / 2) + (a .w + 1) / 2 ≤ (a .b + 2) * ((a .w + 1) / 2)) × (i * a .s + a .s ≤ (a .b + 2) * a .s) × ((a .b + 2) * a .s ≡ a .b * a .s + 2 * a .s) × (a .b * a .s ≤ 8 * a .s) × ((a .b + 2) * ((a .w + 1) / 2) ≤ 10 * ((a .w + 1) / 2))
+inside : (c : tie.In-loop Inv-loop μ-loop) → let a = start c .args in let i = c .before .loop .i in let h = (a .w + 1) / 2 in
+    (i * h + h ≤ (a .b + 2) * h) × (i * a .s + a .s ≤ (a .b + 2) * a .s) × ((a .b + 2) * a .s ≡ a .b * a .s + 2 * a .s) × (a .b * a .s ≤ 8 * a .s) × ((a .b + 2) * h ≤ 10 * h)
 inside c =
     let a = start c .args in
     (part-within ((a .w + 1) / 2) (c .loop-test .taken), part-within (a .s) (c .loop-test .taken), add-mul (a .b) 2 (a .s), mul-le-mul-right (a .s) (start c .pre .3), mul-le-mul-right ((a .w + 1) / 2) (omega arith))

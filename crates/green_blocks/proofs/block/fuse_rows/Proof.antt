@@ -256,7 +256,13 @@ fuse-in-requires c κs =
             all-part (λ g. g ≤ mostGradient) 0 (omega arith) (l .i * s) (l .i * s + (3 * s - 4) - l .i * s) (a .gh .now) (v .pre .1 .1 .0 .2),
             all-part (λ t. t ≤ mostSum) 0 (omega arith) (l .i * h) (l .i * h + 3 * h - l .i * h) (a .tv .now) (v .pre .1 .1 .0 .3),
           ),
-          (room (λ n. (n + 1) / 2 + 1) lx (l .inv .2) (u .0), room (λ n. 4 * ((n + 1) / 2)) lx (l .inv .3) (u .1), room (λ n. (n + 1) / 2) lx (l .inv .4) (u .2), room (λ n. (n + 1) / 2) lx (l .inv .5) (u .3), room (λ n. (n + 1) / 2) lx (l .inv .6) (u .4)),
+          (
+            room (λ n. (n + 1) / 2 + 1) lx (l .inv .2) (u .0),
+            room (λ n. 4 * ((n + 1) / 2)) lx (l .inv .3) (u .1),
+            room (λ n. (n + 1) / 2) lx (l .inv .4) (u .2),
+            room (λ n. (n + 1) / 2) lx (l .inv .5) (u .3),
+            room (λ n. (n + 1) / 2) lx (l .inv .6) (u .4),
+          ),
         ),
       ),
     )

@@ -41,7 +41,9 @@ abbrev μ-loop : tie.MeasureT-loop
 μ-loop frame start piece a n x₀ d₀ g₀ tv₀ t₀ f₀ r₀ p₀ q₀ out₀ w i₀ x d g tv t f r p q out i = n - i
 
 loop-holds : tie.Need-loop-holds Inv-loop μ-loop
-loop-holds c = let a = c .before .before .before .before .before .before .before .before .args in (omega arith, (joined-none _ _ (row-length (a .frame) (a .start) (a .piece .now) (a .a)) _, refl), refl, refl, refl, refl, refl, refl, refl, refl, refl)
+loop-holds c =
+    let a = c .before .before .before .before .before .before .before .before .args in
+    (omega arith, (joined-none _ _ (row-length (a .frame) (a .start) (a .piece .now) (a .a)) _, refl), refl, refl, refl, refl, refl, refl, refl, refl, refl)
 
 sub-block-size : tie.Need-sub-block-size Inv-loop μ-loop
 sub-block-size c = omega arith

@@ -11,7 +11,7 @@ difference-requires c κs =
     record { centre = h _; left = h _; right = h _; second = h _; other = h _ }
 
 returns : tie.Need-returns
-returns c = read-result w16 _ (c .difference .ok) (c .difference .ensures)
+returns c = read-result w16 _ (c .difference .ok) (c .difference .ensures .0)
 
 -- where the five are read is found to lie in x
 pub difference-at-spec : {M : Type 1} → statement M

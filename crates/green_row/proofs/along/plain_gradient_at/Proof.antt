@@ -1,5 +1,5 @@
 -- `green_row::along::plain_gradient_at` meets its contract. Assumes nothing.
-use Prim.Native.Nat.{_+_, _*_, _≤_}
+use Prim.Native.Nat.{_+_, _*_}
 use native.Mathlib.Nat.{le-trans, le-of-eq}
 use mathlib.Core.Path.{_≡_, ap₂, _∙_}
 use mir.Syntax.{w16}

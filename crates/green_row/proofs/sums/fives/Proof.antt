@@ -1,73 +1,47 @@
 -- `green_row::sums::fives` meets its contract. Assumes nothing.
-use Prim.Native.Nat.{_+_, _-_, _*_, _≤_}
-use native.Mathlib.Omega.{arith}
-use mathlib.Core.Path.{refl, _∙_}
+use mathlib.Core.Path.{_∙_}
 use lib.ListN.{length}
-use mir.Syntax.{w32}
-use Rattle.whole.proofs.Signed.{read-result}
-use Rattle.lists.proofs.TableLaws.{Filled, table-none, table-turn, table-done}
-use Rattle.gbtf.specs.Direction.{alternating, fiveSum}
-use Rattle.green_row.specs.Directions.{after}
+use borrow.Author.Needs.{needs}
+use Rattle.green_row.proofs.ReadLaws.{fives-apart}
 use Rattle.green_row.proofs.sums.fives.Statement.{statement}
 use Rattle.green_row.proofs.sums.fives.Tie as tie
 
-abbrev Inv-loop : tie.InvT-loop
-Inv-loop weights d step at out₀ k₀ out k = (k ≤ length out₀) × Filled (λ i. fiveSum weights (alternating (after step d (at + 2 * i)))) k out₀ out
-
-abbrev μ-loop : tie.MeasureT-loop
-μ-loop weights d step at out₀ k₀ out k = length out₀ - k
-
-loop-holds : tie.Need-loop-holds Inv-loop μ-loop
-loop-holds c = (omega arith, (table-none _ _, refl))
-
-mul-five-at : tie.Need-mul-five-at Inv-loop μ-loop
-mul-five-at c = omega arith
-
-add-five-at : tie.Need-add-five-at Inv-loop μ-loop
-add-five-at c = omega arith
-
-five-at-requires : tie.Need-five-at-requires Inv-loop μ-loop
-five-at-requires c κs = omega arith
-
-mul-t11 : tie.Need-mul-t11 Inv-loop μ-loop
-mul-t11 c = omega arith
-
-slice-set-from-out : tie.Need-slice-set-from-out Inv-loop μ-loop
-slice-set-from-out c = omega arith
-
-add-k : tie.Need-add-k Inv-loop μ-loop
-add-k c = omega arith
-
-loop-less : tie.Need-loop-less Inv-loop μ-loop
-loop-less c = omega arith
-
-loop-again : tie.Need-loop-again Inv-loop μ-loop
-loop-again c =
-    let l = c .before .before .loop in
-    (omega arith, table-turn _ (l .k) _ (omega arith) (l .inv .1) (read-result w32 _ (c .five-at .ok) (c .five-at .ensures)))
-
-same-length : tie.Need-same-length Inv-loop μ-loop
-same-length c = omega arith
-
-returns : tie.Need-returns Inv-loop μ-loop
+returns : tie.Need-returns
 returns c =
-    let l = c .before .loop in
-    l .inv .1 .0 ∙ table-done _ (l .k) _ _ (l .inv .0) (omega arith) refl
+    let e = c .before in
+    let s = e .before .before .before .before .before .before .before in
+    let a = s .args in
+    e .fives-across .ensures ∙ fives-apart (a .weights) (a .d .now) (a .step) (a .at) (length (a .out .now)) (s .pre)
 
+-- where the five lists start is found to lie in d
 pub fives-spec : {M : Type 1} → statement M
 fives-spec =
     tie.close
     (tie.spec
-    Inv-loop
-    μ-loop
-    loop-holds
-    mul-five-at
-    add-five-at
-    five-at-requires
-    mul-t11
-    slice-set-from-out
-    add-k
-    loop-less
-    loop-again
-    same-length
+    (λ c. search needs)
+    (λ c. search needs)
+    (λ c. search needs)
+    (λ c. search needs)
+    (λ c. search needs)
+    (λ c. search needs)
+    (λ c. search needs)
+    (λ c. search needs)
+    (λ c. search needs)
+    (λ c. search needs)
+    (λ c. search needs)
+    (λ c. search needs)
+    (λ c. search needs)
+    (λ c. search needs)
+    (λ c. search needs)
+    (λ c. search needs)
+    (λ c. search needs)
+    (λ c. search needs)
+    (λ c. search needs)
+    (λ c. search needs)
+    (λ c. search needs)
+    (λ c. search needs)
+    (λ c. search needs)
+    (λ c. search needs)
+    (λ c κs. search needs)
+    (λ c. search needs)
     returns)

@@ -1,6 +1,6 @@
 -- `remosaic::back::row_back` meets its contract. Assumes nothing.
 use Prim.Native.Nat.{_≤_, _-_, _/_}
-use mathlib.Core.Path.{refl, ap, _∙_}
+use mathlib.Core.Path.{refl, _∙_}
 use native.Mathlib.Omega.{arith}
 use borrow.Author.Needs.{needs}
 use lib.ListN.{length}

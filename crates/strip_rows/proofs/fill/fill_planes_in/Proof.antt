@@ -5,7 +5,7 @@ use lib.ListN.{length}
 use borrow.Author.Needs.{needs}
 use Rattle.bayer.specs.declared.colour.Colour.the-variants.{Red, Green, Blue}
 use Rattle.strip_rows.specs.StripRows.{Readable, ColourRoom}
-use Rattle.strip_rows.proofs.ColourRow.{colour-room-kept}
+use Rattle.strip_rows.proofs.ColourBlock.{colour-room-kept}
 use Rattle.strip_rows.proofs.PlanesFromRows.{green-plane, readable-from, plane-from}
 use Rattle.strip_rows.proofs.fill.fill_planes_in.Statement.{statement}
 use Rattle.strip_rows.proofs.fill.fill_planes_in.Tie as tie
@@ -18,7 +18,8 @@ abbrev placed : tie.After-greens → tie.After-piece-start
 placed c = c .before .before .before .before .before .before .before .before .before .before .before .before .before
 
 abbrev green : tie.After-colour-planes-arg8 → tie.After-greens
-green c = c .before .before .before .before .before .before .before .before .before .before .before .before .before .before .before .before .before .before .before .before .before .before .before .before .before .before .before .before .before
+green c =
+    c .before .before .before .before .before .before .before .before .before .before .before .before .before .before .before .before .before .before .before .before .before .before .before .before .before .before .before .before .before
 
 abbrev ended : tie.After-slice-known24 → tie.After-colour-planes
 ended c = c .before .before .before .before .before .before .before .before .before

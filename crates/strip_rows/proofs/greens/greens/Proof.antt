@@ -47,8 +47,14 @@ green-beside-requires : tie.Need-green-beside-requires
 green-beside-requires c κs =
     let c₁ = own (to-above c) in
     let s = start (c₁ .before) in
-    let k = c₁ .green-rows .kept .1 .1 .1 .1 .1 in
-    ((λ v e h. beside s v h (omega (arith, e)) (omega (arith, e)), s .pre .0 .range), (room-kept (s .pre .1 .1) (k .0) (k .1 .0) (k .1 .1 .0) (k .1 .1 .1 .0) (k .1 .1 .1 .1 .0) (k .1 .1 .1 .1 .1 .0) (k .1 .1 .1 .1 .1 .1 .0) (k .1 .1 .1 .1 .1 .1 .1 .0) (k .1 .1 .1 .1 .1 .1 .1 .1 .0), s .pre .1 .0 .1))
+    let k = c₁ .green-rows .kept .1 .1 .1 .1 .1 in (
+      (λ v e h. beside s v h (omega (arith, e)) (omega (arith, e)), s .pre .0 .range),
+      (
+        room-kept (s .pre .1 .1) (k .0) (k .1 .0) (k .1 .1 .0) (k .1 .1 .1 .0) (k .1 .1 .1 .1 .0) (k .1 .1 .1 .1 .1 .0)
+            (k .1 .1 .1 .1 .1 .1 .0) (k .1 .1 .1 .1 .1 .1 .1 .0) (k .1 .1 .1 .1 .1 .1 .1 .1 .0),
+        s .pre .1 .0 .1,
+      ),
+    )
 
 add-green-beside : tie.Need-add-green-beside
 add-green-beside c = small (start (own (to-above (above c .before)) .before)) .2
@@ -64,7 +70,12 @@ green-beside-requires-2 c κs =
     let k = c₁ .green-rows .kept .1 .1 .1 .1 .1 in
     let l = c₂ .green-beside .kept .1 .1 .1 .1 in (
       (λ v e h. beside s v h (omega (arith, e)) (omega (arith, e)), s .pre .0 .range),
-      (room-kept (s .pre .1 .1) (l .0 ∙ k .0) (l .1 .0 ∙ k .1 .0) (l .1 .1 .0 ∙ k .1 .1 .0) (l .1 .1 .1 .0 ∙ k .1 .1 .1 .0) (l .1 .1 .1 .1 .0 ∙ k .1 .1 .1 .1 .0) (l .1 .1 .1 .1 .1 .0 ∙ k .1 .1 .1 .1 .1 .0) (l .1 .1 .1 .1 .1 .1 .0 ∙ k .1 .1 .1 .1 .1 .1 .0) (l .1 .1 .1 .1 .1 .1 .1 .0 ∙ k .1 .1 .1 .1 .1 .1 .1 .0) (l .1 .1 .1 .1 .1 .1 .1 .1 .0 ∙ k .1 .1 .1 .1 .1 .1 .1 .1 .0), s .pre .1 .0 .2),
+      (
+        room-kept (s .pre .1 .1) (l .0 ∙ k .0) (l .1 .0 ∙ k .1 .0) (l .1 .1 .0 ∙ k .1 .1 .0) (l .1 .1 .1 .0 ∙ k .1 .1 .1 .0) (l .1 .1 .1 .1 .0 ∙ k .1 .1 .1 .1 .0)
+            (l .1 .1 .1 .1 .1 .0 ∙ k .1 .1 .1 .1 .1 .0) (l .1 .1 .1 .1 .1 .1 .0 ∙ k .1 .1 .1 .1 .1 .1 .0)
+            (l .1 .1 .1 .1 .1 .1 .1 .0 ∙ k .1 .1 .1 .1 .1 .1 .1 .0) (l .1 .1 .1 .1 .1 .1 .1 .1 .0 ∙ k .1 .1 .1 .1 .1 .1 .1 .1 .0),
+        s .pre .1 .0 .2,
+      ),
     )
 
 module _ (c : tie.After-slice-known30) where

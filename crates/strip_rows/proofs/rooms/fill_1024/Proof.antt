@@ -1,8 +1,8 @@
--- `strip_rows::rooms::fill_wide` meets its contract: rows of up to 4096 columns fit the arrays. Assumes nothing.
+-- `strip_rows::rooms::fill_1024` meets its contract: rows of up to 1024 columns fit the arrays. Assumes nothing.
 use native.Mathlib.Omega.{arith}
 use borrow.Author.Needs.{needs}
-use Rattle.strip_rows.proofs.rooms.fill_wide.Statement.{statement}
-use Rattle.strip_rows.proofs.rooms.fill_wide.Tie as tie
+use Rattle.strip_rows.proofs.rooms.fill_1024.Statement.{statement}
+use Rattle.strip_rows.proofs.rooms.fill_1024.Tie as tie
 
 abbrev start : tie.After-below → tie.Start
 start c = c .before .before .before .before .before .before .before .before .before .before .before .before .before .before .before .before .before .before
@@ -13,8 +13,8 @@ filled c = c .before .before .before .before .before .before .before .before .be
 fill-planes-requires : tie.Need-fill-planes-requires
 fill-planes-requires c κs =
     let s = start c in
-    let w = s .pre .0 .frame .narrow in (
-      s .pre,
+    let w = s .pre .1 in (
+      s .pre .0,
       (
         record {
           for-readings = omega (arith, w);
@@ -43,8 +43,8 @@ same-length-3 : tie.Need-same-length-3
 same-length-3 c = filled c .fill-planes .kept .1 .1 .1 .1 .1 .1 .0
 
 -- what else is asked is found
-pub fill-wide-spec : {M : Type 1} → statement M
-fill-wide-spec =
+pub fill-1024-spec : {M : Type 1} → statement M
+fill-1024-spec =
     tie.close
     (tie.spec
     (λ c. search needs)

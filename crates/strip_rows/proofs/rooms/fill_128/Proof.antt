@@ -1,8 +1,8 @@
--- `strip_rows::rooms::fill_narrow` meets its contract: rows of up to 1024 columns fit the arrays. Assumes nothing.
+-- `strip_rows::rooms::fill_128` meets its contract: rows of up to 128 columns fit the arrays. Assumes nothing.
 use native.Mathlib.Omega.{arith}
 use borrow.Author.Needs.{needs}
-use Rattle.strip_rows.proofs.rooms.fill_narrow.Statement.{statement}
-use Rattle.strip_rows.proofs.rooms.fill_narrow.Tie as tie
+use Rattle.strip_rows.proofs.rooms.fill_128.Statement.{statement}
+use Rattle.strip_rows.proofs.rooms.fill_128.Tie as tie
 
 abbrev start : tie.After-below → tie.Start
 start c = c .before .before .before .before .before .before .before .before .before .before .before .before .before .before .before .before .before .before
@@ -43,8 +43,8 @@ same-length-3 : tie.Need-same-length-3
 same-length-3 c = filled c .fill-planes .kept .1 .1 .1 .1 .1 .1 .0
 
 -- what else is asked is found
-pub fill-narrow-spec : {M : Type 1} → statement M
-fill-narrow-spec =
+pub fill-128-spec : {M : Type 1} → statement M
+fill-128-spec =
     tie.close
     (tie.spec
     (λ c. search needs)
