@@ -16,8 +16,8 @@
  *
  * The library keeps no memory between calls, takes no lock and no heap, and prints nothing. Calls in several threads are
  * independent; strips and previews of one frame may run at the same time, each into its own rows. A strip takes about 770 KB of
- * stack, whatever the size of the frame: a thread that calls it needs a stack of 1 MB at the least. A preview takes about 200 KB: a
- * thread that calls no strip needs 256 KB at the least. The others take next to none.
+ * stack, about 970 KB if the frame has 1024 columns or fewer: a thread that calls it needs a stack of 1 MB at the least. A preview
+ * takes about 200 KB: a thread that calls no strip needs 256 KB at the least. The others take next to none.
  *
  * A frame has `width` columns and `height` rows, each 2 to 4096. Rows and columns count from 0. Readings are 0 to 4095. The
  * layout gives the colours of an even and of an odd row: 0 = RG GB, 1 = GR BG, 2 = GB RG, 3 = BG GR. It is a byte here: C
@@ -93,7 +93,7 @@ uint32_t rokzimp_strip_check(size_t width, size_t height, uint8_t layout, size_t
                              size_t red_count, size_t green_count, size_t blue_count);
 
 /* A preview: a strip for the unit beside the chair, which shows at most 1024 columns and takes at most 64 rows in a strip. Arguments,
- * what is written and what is returned are as for rokzimp_strip_smoothed; it takes about a quarter of the stack. Tests 1, 2, 10, 3,
+ * what is written and what is returned are as for rokzimp_strip_smoothed; it takes about a fifth of the stack. Tests 1, 2, 10, 3,
  * 11, 4, 5 and 6, in that order. What it accepts rokzimp_strip_smoothed accepts too, and both leave the same samples. So strips and
  * previews of one frame may be mixed freely: if they are of one smoothing there are no seams, and the error above holds. */
 uint32_t rokzimp_preview_smoothed(size_t width, size_t height, uint8_t layout, uint8_t smoothing, size_t first_row, size_t rows,

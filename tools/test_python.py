@@ -21,7 +21,7 @@ import unittest.mock
 import zlib
 
 from stage import ROOT, RULES
-from test_quotes import Quotes, SamePrograms  # noqa: F401, so that its test runs too
+from test_quotes import Quotes, SamePrograms  # noqa: F401, so that its tests run too
 sys.path.insert(0, os.path.join(ROOT, "python"))
 import reference
 import rokzimp
@@ -283,11 +283,12 @@ class Test(unittest.TestCase):
         self.assertEqual(threading.stack_size(), before)
 
     def test_threads_where_stacks_are_small(self):
-        """A thread would start with half the stack that a strip takes."""
-        script = ("import sys; sys.path.insert(0, 'python'); import rokzimp; from array import array\n"
-                  "print({*rokzimp.whole_frame(64, 64, 0, array('H', [100] * 4096), strip_height=8, threads=2)[1]})")
-        ran = subprocess.run(["sh", "-c", 'ulimit -s 400 && exec "$0" -c "$1"', sys.executable, script], capture_output=True, cwd=ROOT)
-        self.assertEqual((ran.returncode, ran.stdout), (0, b"{1600}\n"), ran.stderr)
+        """A thread would start with half the stack that a strip takes, of a wide frame and of a narrow one."""
+        for width in (64, 4096):
+            script = ("import sys; sys.path.insert(0, 'python'); import rokzimp; from array import array\n"
+                      f"print({{*rokzimp.whole_frame({width}, 64, 0, array('H', [100] * {64 * width}), strip_height=8, threads=2)[1]}})")
+            ran = subprocess.run(["sh", "-c", 'ulimit -s 400 && exec "$0" -c "$1"', sys.executable, script], capture_output=True, cwd=ROOT)
+            self.assertEqual((ran.returncode, ran.stdout), (0, b"{1600}\n"), ran.stderr)
 
     def test_raised_in_a_thread(self):
         def refuses_row_16(width, height, layout, first, *others):

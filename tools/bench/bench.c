@@ -178,6 +178,10 @@ static void *one_strip(void *who) {
     strip(*(int *)who, 0, SIZE, 0, SIZE, 1);
     return 0;
 }
+static void *one_narrow_strip(void *who) {
+    strip(*(int *)who, 0, 1024, 0, 64, 1);
+    return 0;
+}
 static void *one_preview(void *who) {
     strip(*(int *)who, 1, 1024, 0, 64, 1);
     return 0;
@@ -271,10 +275,11 @@ int main(int argc, char **argv) {
     bad |= beside("a test frame", test_frame, seconds);
     bad |= beside("a test frame by single rows", test_rows, seconds);
     printf("memory beside the mosaic and the planes, the thread's own few thousand bytes of stack included:\n");
-    /* the mosaic back takes the strip's planes, so the preview comes after it */
-    size_t in_strip = stack_used(one_strip, LIBRARY), in_back = stack_used(one_back, 0), in_preview = stack_used(one_preview, LIBRARY);
-    printf("  %-10s %8zu bytes of stack, %zu in a preview, %zu for the mosaic back, no heap\n", names[LIBRARY], in_strip, in_preview,
-           in_back);
+    /* the mosaic back takes the strip's planes, so the others come after it */
+    size_t in_strip = stack_used(one_strip, LIBRARY), in_back = stack_used(one_back, 0);
+    size_t in_narrow = stack_used(one_narrow_strip, LIBRARY), in_preview = stack_used(one_preview, LIBRARY);
+    printf("  %-10s %8zu bytes of stack, %zu in a strip of 1024 columns, %zu in a preview of them, %zu for the mosaic back, no heap\n",
+           names[LIBRARY], in_strip, in_narrow, in_preview, in_back);
     for (int who = WHOLE; who < EACH; who++) {
         heap_most = 0;
         size_t stack = stack_used(one_strip, who);
