@@ -14,7 +14,8 @@ use Rattle.bayer.specs.declared.frame.Frame.{Frame}
 use Rattle.bayer.specs.Frame.{frame, smoothed}
 use Rattle.bayer.specs.Mirror.{mirror}
 use Rattle.bayer.specs.Planes.{threePlanes}
-use Rattle.bayer.specs.Refusal.{Refusal, sizeOutOfRange, unknownLayout, rowsOutsideFrame, wrongPieceLength, wrongPlaneLength, readingOutOfRange, rowMissing, malformedFile, notCameraPlanes, unknownSmoothing, overPreviewSize, number, firstOf}
+use Rattle.bayer.specs.Refusal.{Refusal, number, firstOf}
+use Rattle.bayer.specs.Refusal.{sizeOutOfRange, unknownLayout, rowsOutsideFrame, wrongPieceLength, wrongPlaneLength, readingOutOfRange, rowMissing, malformedFile, notCameraPlanes, unknownSmoothing, overPreviewSize}
 use Rattle.bayer.specs.Condition.{sizeCases}
 use Rattle.gbtf.specs.declared.direction.Direction.{Direction}
 use Rattle.gbtf.specs.Difference.{difference}

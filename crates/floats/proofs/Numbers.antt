@@ -27,7 +27,8 @@ abbrev pub number-plus : (b k : ℕ) (x y : Float) → WholeUpTo k y → Number 
 number-plus b k x y w p f e =
     record {
       value = p .value + val y;
-      is = ap₂ (add binary64) (p .is) (w .whole) ∙ add-whole (p .value) (val y) (exact-small (p .value) (omega (arith, ltb-true b (2 ^ 53) e, p .most))) (exact-small (val y) (omega (arith, ltb-false b k f, ltb-true b (2 ^ 53) e, w .most)));
+      is = ap₂ (add binary64) (p .is) (w .whole)
+          ∙ add-whole (p .value) (val y) (exact-small (p .value) (omega (arith, ltb-true b (2 ^ 53) e, p .most))) (exact-small (val y) (omega (arith, ltb-false b k f, ltb-true b (2 ^ 53) e, w .most)));
       most = omega (arith, p .most, w .most, ltb-false b k f);
     }
 
@@ -44,7 +45,8 @@ abbrev pub number-product : (b k : ℕ) (x y : Float) → WholeUpTo k x → Numb
 number-product b k x y w q f e =
     record {
       value = val x * q .value;
-      is = ap₂ (mul binary64) (w .whole) (q .is) ∙ mul-whole (val x) (q .value) (exact-small (val x) (omega (arith, ltb-true k (2 ^ 53) f, w .most))) (exact-small (q .value) (omega (arith, ltb-true b (2 ^ 53) e, q .most, div-le-self b k)));
+      is = ap₂ (mul binary64) (w .whole) (q .is)
+          ∙ mul-whole (val x) (q .value) (exact-small (val x) (omega (arith, ltb-true k (2 ^ 53) f, w .most))) (exact-small (q .value) (omega (arith, ltb-true b (2 ^ 53) e, q .most, div-le-self b k)));
       most = le-trans (mul-le-mul (w .most) (q .most)) (mul-div-le b k);
     }
 

@@ -1,4 +1,5 @@
--- The greens of a frame whose rows, from row `first` on, are given: by the whole-number rule, and exact. Which share scale and which weights the rules take is said here: the weights go by the frame description's smoothing. Assumes nothing.
+-- The greens of a frame whose rows, from row `first` on, are given: by the whole-number rule, and exact. Which share scale and which weights the rules take is said here:
+-- the weights go by the frame description's smoothing. Assumes nothing.
 use Prim.Native.Nat.{ℕ}
 use mathlib.Core.List.{List}
 use lib.IntN.{ℤ, pos}

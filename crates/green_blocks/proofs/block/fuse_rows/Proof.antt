@@ -40,7 +40,8 @@ row-same smoothing x dh dv gh tv w odd i e =
 
 abbrev Inv-loop : tie.InvT-loop
 Inv-loop smoothing x w b odd dh dv gh tv t₀ f₀ r₀ p₀ q₀ out₀ s h i₀ t f r p q out i =
-    (i ≤ b) × (Handed (rows smoothing x w odd dh dv gh tv) w (row-length smoothing x w odd dh dv gh tv) i out₀ out) × (length t ≡ length t₀) × (length f ≡ length f₀) × (length r ≡ length r₀) × (length p ≡ length p₀) × (length q ≡ length q₀)
+    (i ≤ b) × (Handed (rows smoothing x w odd dh dv gh tv) w (row-length smoothing x w odd dh dv gh tv) i out₀ out)
+    × (length t ≡ length t₀) × (length f ≡ length f₀) × (length r ≡ length r₀) × (length p ≡ length p₀) × (length q ≡ length q₀)
 
 abbrev μ-loop : tie.MeasureT-loop
 μ-loop smoothing x w b odd dh dv gh tv t₀ f₀ r₀ p₀ q₀ out₀ s h i₀ t f r p q out i = b - i
