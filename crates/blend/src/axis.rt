@@ -3,7 +3,7 @@ ghost use Rattle.blend.specs.Blend.{axis};
 ghost use Rattle.bayer.specs.Readings.{Readings};
 
 // How much the readings vary along a row or a column, and four times the estimate of green from them.
-#[derive(Drop)]
+#[derive(Clone, Copy)]
 pub struct Axis {
     pub variation: u16,
     pub estimate: i16,

@@ -1,1 +1,3 @@
 // Lists of calls over three planes: a theorem, in proofs/CallList.antt, and no code.
+#![tactic(auto)]
+

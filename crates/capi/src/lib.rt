@@ -1,4 +1,6 @@
 // What C calls. A slice is a pointer and a count of samples.
+#![tactic(auto)]
+
 pub mod mosaics;
 pub mod pieces;
 pub mod previews;

@@ -1,5 +1,7 @@
 // Reads cases from standard input, hands each to the library, and writes each answer as a line of numbers. tools/make_cases.py says what the lines mean, and
 // writes them with the answers of the other implementation, to which this program's answers are held.
+#![tactic(auto)]
+
 ghost use Rattle.std.specs.Prelude.{◌<◌, length};
 
 use crate::fields::Fields;

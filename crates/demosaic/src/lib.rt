@@ -1,2 +1,4 @@
 // Red and blue, filled in from green.
+#![tactic(auto)]
+
 pub mod fill;

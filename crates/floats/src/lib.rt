@@ -1,4 +1,6 @@
 // Whole numbers in 64-bit floats.
+#![tactic(auto)]
+
 ghost use Rattle.std.specs.Prelude.{◌≡◌, cond};
 ghost use Rattle.floats.specs.Float.{float};
 

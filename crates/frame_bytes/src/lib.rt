@@ -1,4 +1,6 @@
 // Numbers of two and of four bytes, big-endian, a frame description among bytes, and the first of some bytes.
+#![tactic(auto)]
+
 ghost use Rattle.std.specs.Prelude.{◌≡◌, ◌+◌, ◌≤◌, ◌<◌, min, length, take};
 ghost use Rattle.frame_bytes.specs.FrameBytes.{big_endian, frame_at};
 

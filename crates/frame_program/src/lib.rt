@@ -1,3 +1,5 @@
 // What the programs run: each reads, answers and prints.
+#![tactic(auto)]
+
 pub mod file;
 pub mod test;

@@ -1,4 +1,6 @@
 // What a program prints of a frame of at most 4096 readings, put into a lent buffer.
+#![tactic(auto)]
+
 ghost use Rattle.std.specs.Prelude.{◌≡◌, ◌*◌, ◌≤◌, length};
 ghost use Rattle.plane_text.specs.Written.{Written};
 ghost use Rattle.frame_text.specs.FrameText.{frame_text, whole_number};

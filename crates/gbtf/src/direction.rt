@@ -2,7 +2,7 @@ ghost use Rattle.std.specs.Prelude.{◌≡◌, ◌≤◌, ◌<◌, pos, nat_abs,
 ghost use Rattle.gbtf.specs.Direction.{direction_sum, alternating, five_sum};
 
 // What green takes from one direction: its five-sum and its direction sum.
-#[derive(Drop)]
+#[derive(Clone, Copy)]
 pub struct Direction {
     pub five: i32,
     pub sum: u32,

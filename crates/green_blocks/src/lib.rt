@@ -1,4 +1,6 @@
 // Green of many rows, block by block.
+#![tactic(auto)]
+
 pub mod block;
 pub mod blocks;
 pub mod fetch;

@@ -1,4 +1,6 @@
 // Green of a row, from buffers of differences, gradients and direction sums.
+#![tactic(auto)]
+
 pub mod along;
 pub mod directions;
 pub mod extend;

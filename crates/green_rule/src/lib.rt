@@ -1,1 +1,3 @@
 // Definitions and laws: how the greens of a frame are worked out.
+#![tactic(auto)]
+

@@ -1,4 +1,6 @@
 // Rows worked out at every second column.
+#![tactic(auto)]
+
 pub mod halves;
 
 ghost use Rattle.std.specs.Prelude.{◌≡◌, ◌+◌, ◌*◌, ◌/◌, ◌≤◌, ◌<◌, length, get_or};

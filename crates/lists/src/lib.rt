@@ -1,2 +1,4 @@
 // Lists: given by a rule, their parts and rows, bounds on their entries.
+#![tactic(auto)]
+
 pub mod above;

@@ -1,5 +1,7 @@
 // Reads inputs of the small programs, each behind a byte that says of which (0: frame files, 1: test frames) and a two-byte length of its own, and prints what
 // that program prints for each. tools/planes_cases.py makes them, and from another implementation what is to be printed.
+#![tactic(auto)]
+
 ghost use Rattle.std.specs.Prelude.{◌≤◌};
 
 use frame_file::answer;

@@ -1,4 +1,6 @@
 // Strip calls: red, green and blue of some rows of a frame, from a piece of its mosaic.
+#![tactic(auto)]
+
 pub mod check;
 pub mod entry;
 pub mod preview;

@@ -1,4 +1,6 @@
 // Whole-number arithmetic: the range of a sample.
+#![tactic(auto)]
+
 ghost use Rattle.std.specs.Prelude.{◌≡◌};
 ghost use Rattle.whole.specs.Clamp.{clamp};
 
