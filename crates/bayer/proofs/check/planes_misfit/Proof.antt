@@ -3,14 +3,14 @@ use borrow.Author.Tests.{eq-eqb, ne_eqb}
 use Rattle.bayer.proofs.check.planes_misfit.Statement.{statement}
 use Rattle.bayer.proofs.check.planes_misfit.Tie as tie
 
-returns : tie.Need-returns
-returns c = rw (ne_eqb _ _ c.if1.true)
+returns : tie.Need-returns-then-red-size
+returns c = rw (ne_eqb _ _ c.if-red-size.true)
 
-returns-2 : tie.Need-returns-2
-returns-2 c = rw (eq-eqb _ _ c.before.if1.false, ne_eqb _ _ c.if2.true)
+returns-2 : tie.Need-returns-then-green-size
+returns-2 c = rw (eq-eqb _ _ c.before.if-red-size.false, ne_eqb _ _ c.if-green-size.true)
 
-returns-3 : tie.Need-returns-3
-returns-3 c = rw (eq-eqb _ _ c.before.if1.false, eq-eqb _ _ c.if2.false)
+returns-3 : tie.Need-returns
+returns-3 c = rw (eq-eqb _ _ c.before.if-red-size.false, eq-eqb _ _ c.if-green-size.false)
 
-pub planes-misfit-spec : {M : Type 1} → statement M
-planes-misfit-spec = tie.close (tie.spec returns returns-2 returns-3)
+pub planes_misfit_spec : {M : Type 1} → statement M
+planes_misfit_spec = tie.close (tie.spec returns returns-2 returns-3)

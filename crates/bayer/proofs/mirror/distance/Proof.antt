@@ -5,14 +5,14 @@ use borrow.Author.Rules.{rules}
 use Rattle.bayer.proofs.mirror.distance.Statement.{statement}
 use Rattle.bayer.proofs.mirror.distance.Tie as tie
 
-sub-result : tie.Need-overflow-sub-result
+sub-result : tie.Need-overflow_sub-result
 sub-result c = search rules
 
-returns : tie.Need-returns
+returns : tie.Need-returns-then-a-b
 returns c = rw (abs-by (subₚ c.before.args.a c.before.args.b)) (omega arith)
 
-returns-2 : tie.Need-returns-2
+returns-2 : tie.Need-returns
 returns-2 c = rw (abs-by (subₚ c.before.args.a c.before.args.b)) (omega arith)
 
-pub distance-spec : {M : Type 1} → statement M
-distance-spec = tie.close (tie.spec sub-result returns returns-2)
+pub distance_spec : {M : Type 1} → statement M
+distance_spec = tie.close (tie.spec sub-result returns returns-2)
