@@ -35,7 +35,7 @@ fits c s e = rw (equal s (Dₚ c) e) (held c)
 narrowed : (c : tie.Start) {z : ℤ} → SFits w16 z → (s : Small 2147483647 z) → s.pair.hi + (Dₚ c).lo ≡ (Dₚ c).hi + s.pair.lo → to_z w16 (of_z w16 z) ≡ D c
 narrowed c {z} _ s e = back w16 z (equal s (Dₚ c) e) (held c)
 
-cast-result-2 : tie.Need-overflow-cast-result-2
+cast-result-2 : tie.Need-overflow_cast-result-2
 unfolding difference
 cast-result-2 c = let f = c.ranges in fits c (search (small, f.c, f.l, f.r, f.p, f.q) depth 20) (omega arith)
 
@@ -51,8 +51,8 @@ returns c =
     both t h = (h, ap neg_ℤ h ∙ t)
 
 -- what each other cast and each operation asks is found
-pub difference-spec : {M : Type 1} → statement M
-difference-spec =
+pub difference_spec : {M : Type 1} → statement M
+difference_spec =
     tie.close
     (tie.spec
     (λ c. search (rules, small) depth 20)

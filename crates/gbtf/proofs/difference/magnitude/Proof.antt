@@ -10,27 +10,27 @@ use Rattle.whole.proofs.Signed.{is-neg, read-nonneg, turned, read-turned, to-uns
 use Rattle.gbtf.proofs.difference.magnitude.Statement.{statement}
 use Rattle.gbtf.proofs.difference.magnitude.Tie as tie
 
-natural : (c : tie.Then1) → to_z w16 (of_z w16 (negsuc 0 -ℤ to_z w16 (of_z w16 c.before.args.x))) ≡ pos (mag c.before.args.x)
-natural c = read-turned c.before.ranges.x c.if1.true
+natural : (c : tie.Then-x-lt0) → to_z w16 (of_z w16 (negsuc 0 -ℤ to_z w16 (of_z w16 c.before.args.x))) ≡ pos (mag c.before.args.x)
+natural c = read-turned c.before.ranges.x c.if-x-lt0.true
 
-sub-result : tie.Need-overflow-sub-result
-sub-result c = rw (turned c.before.ranges.x c.if1.true) (sfits_of c.before.ranges.x.sfits)
+sub-result : tie.Need-overflow_sub-result
+sub-result c = rw (turned c.before.ranges.x c.if-x-lt0.true) (sfits_of c.before.ranges.x.sfits)
 
-cast-result : tie.Need-overflow-cast-result
+cast-result : tie.Need-overflow_cast-result
 cast-result c = to-unsigned _ (natural c) (omega (arith, c.before.ranges.x.sfits))
 
-add-result : tie.Need-overflow-add-result
+add-result : tie.Need-overflow_add-result
 add-result c = omega (arith, ap nat_abs (natural c), c.before.ranges.x.sfits)
 
-cast-result-2 : tie.Need-overflow-cast-result-2
-cast-result-2 c = to-unsigned _ (read-nonneg c.before.ranges.x c.if1.false) (omega (arith, c.before.ranges.x.sfits))
+cast-result-2 : tie.Need-overflow_cast-result-else-x-lt0
+cast-result-2 c = to-unsigned _ (read-nonneg c.before.ranges.x c.if-x-lt0.false) (omega (arith, c.before.ranges.x.sfits))
 
-returns : tie.Need-returns
-returns c = omega (arith, ap nat_abs (natural c), ap nat_abs (is-neg c.before.ranges.x c.if1.true))
+returns : tie.Need-returns-then-x-lt0
+returns c = omega (arith, ap nat_abs (natural c), ap nat_abs (is-neg c.before.ranges.x c.if-x-lt0.true))
 
-returns-2 : tie.Need-returns-2
+returns-2 : tie.Need-returns-else-x-lt0
 returns-2 c = search rules
 
-pub magnitude-spec : {M : Type 1} → statement M
-magnitude-spec =
+pub magnitude_spec : {M : Type 1} → statement M
+magnitude_spec =
     tie.close (tie.spec sub-result cast-result add-result cast-result-2 returns returns-2)

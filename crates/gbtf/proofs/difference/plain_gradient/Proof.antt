@@ -18,7 +18,7 @@ read c = ap₂ ◌-ℤ◌ (to_z-of_z w16 c.args.before c.ranges.before) (to_z-of
 held : (c : tie.Start) → SFits w16 (c.args.before -ℤ c.args.after)
 held c = fits-within (c.args.before -ℤ c.args.after) c.requires (lit< tt)
 
-sub-magnitude : tie.Need-overflow-sub-magnitude
+sub-magnitude : tie.Need-overflow_sub-before
 sub-magnitude c = rw (read c) (held c)
 
 magnitude-requires : tie.Need-magnitude-requires
@@ -27,5 +27,5 @@ magnitude-requires c κs = search rules
 returns : tie.Need-returns
 returns c = c.magnitude.ensures ∙ ap nat_abs (back w16 _ (read c.before) (held c.before))
 
-pub plain-gradient-spec : {M : Type 1} → statement M
-plain-gradient-spec = tie.close (tie.spec sub-magnitude magnitude-requires returns)
+pub plain_gradient_spec : {M : Type 1} → statement M
+plain_gradient_spec = tie.close (tie.spec sub-magnitude magnitude-requires returns)

@@ -10,17 +10,17 @@ use borrow.Author.Rules.{rules}
 abbrev product : tie.Start → E w32
 product c = nat c.args.weight 255 (omega arith) ⊗ widened w16 c.args.d c.ranges.d (lit< tt)
 
-cast-result : tie.Need-overflow-cast-result
+cast-result : tie.Need-overflow_cast-result
 cast-result c = search rules
 
-cast-result-2 : tie.Need-overflow-cast-result-2
+cast-result-2 : tie.Need-overflow_cast-result-2
 cast-result-2 c = wide-cast w16 _ c.ranges.d (lit< tt)
 
-mul-result : tie.Need-overflow-mul-result
+mul-result : tie.Need-overflow_mul-result
 mul-result c = asked (product c) tt
 
 returns : tie.Need-returns
 returns c = (value (product c) tt, bounded (product c) tt)
 
-pub weighted-spec : {M : Type 1} → statement M
-weighted-spec = tie.close (tie.spec cast-result cast-result-2 mul-result returns)
+pub weighted_spec : {M : Type 1} → statement M
+weighted_spec = tie.close (tie.spec cast-result cast-result-2 mul-result returns)

@@ -6,11 +6,11 @@ use Rattle.gbtf.proofs.WeightLaws.{tapered-unless-0}
 use Rattle.gbtf.proofs.weights.weights_of.Statement.{statement}
 use Rattle.gbtf.proofs.weights.weights_of.Tie as tie
 
-returns : tie.Need-returns
-returns c = (sym (ap weights_of c.if1.true), (lit≤ tt, lit≤ tt))
+returns : tie.Need-returns-then-smoothing-eq0
+returns c = (sym (ap weights_of c.if-smoothing-eq0.true), (lit≤ tt, lit≤ tt))
 
-returns-2 : tie.Need-returns-2
-returns-2 c = (sym (tapered-unless-0 _ c.if1.false), (lit≤ tt, lit≤ tt))
+returns-2 : tie.Need-returns-else-smoothing-eq0
+returns-2 c = (sym (tapered-unless-0 _ c.if-smoothing-eq0.false), (lit≤ tt, lit≤ tt))
 
-pub weights-of-spec : {M : Type 1} → statement M
-weights-of-spec = tie.close (tie.spec returns returns-2)
+pub weights_of_spec : {M : Type 1} → statement M
+weights_of_spec = tie.close (tie.spec returns returns-2)

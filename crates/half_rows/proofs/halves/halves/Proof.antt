@@ -15,23 +15,23 @@ start c = c.before.before.before.before.before.before
 abbrev edged : tie.After-split → tie.After-edge
 edged c = c.before.before.before.before.before.before.before
 
-abbrev parted : tie.After-edge-arg4 → tie.After-split
+abbrev parted : tie.After-edge-arg-4-1 → tie.After-split
 parted c = c.before.before.before.before.before.before
 
 edge-requires-2 : tie.Need-edge-requires-2
-edge-requires-2 c κs = let k = parted c in let e = (edged k).edge.kept.1.1 in let s = k.split.kept.1 in omega (arith, e.0, e.1.0, s.0, s.1.0)
+edge-requires-2 c κs = let k = parted c in omega (arith, (edged k).edge.auto.e, (edged k).edge.auto.o, k.split.auto.e, k.split.auto.o)
 
-same_length : tie.Need-same-length
+same_length : tie.Need-shape_of-e
 same_length c =
     let e₃ = c.before.before.before.before in
     let e₂ = parted e₃.before in
-    omega (arith, (edged e₂).edge.kept.1.1.0, e₂.split.kept.1.0, e₃.edge2.auto.1.1.0)
+    omega (arith, (edged e₂).edge.auto.e, e₂.split.auto.e, e₃.edge-2.auto.e)
 
-same-length-2 : tie.Need-same-length-2
+same-length-2 : tie.Need-shape_of-o
 same-length-2 c =
     let e₃ = c.before.before.before.before in
     let e₂ = parted e₃.before in
-    omega (arith, (edged e₂).edge.kept.1.1.1.0, e₂.split.kept.1.1.0, e₃.edge2.auto.1.1.1.0)
+    omega (arith, (edged e₂).edge.auto.o, e₂.split.auto.o, e₃.edge-2.auto.o)
 
 returns : tie.Need-returns
 returns c =
@@ -41,13 +41,13 @@ returns c =
     let s = start e₁ in
     let row = s.args.row.now in
     let same : (k : ℕ) → get_or row (2 * k) 0 ≡ get_or row (2 * k + 0) 0 = λ k. (let z : 2 * k ≡ 2 * k + 0 = omega arith in ap (λ i. get_or row i 0) z) in (
-      half-row 0 row s.args.e.now (omega arith) s.pre.2 (omega arith) (omega (arith, e₁.edge.kept.1.1.0)) e₁.edge.ensures.0 e₂.split.ensures.0 same e₃.edge2.ensures.0,
-      half-row 1 row s.args.o.now (omega arith) s.pre.3 (omega arith) (omega (arith, e₁.edge.kept.1.1.1.0)) e₁.edge.ensures.1 e₂.split.ensures.1 (λ k. refl) e₃.edge2.ensures.1,
+      half-row 0 row s.args.e.now (omega arith) s.requires.2 (omega arith) (omega (arith, e₁.edge.auto.e)) e₁.edge.ensures.0 e₂.split.ensures.0 same e₃.edge-2.ensures.0,
+      half-row 1 row s.args.o.now (omega arith) s.requires.3 (omega arith) (omega (arith, e₁.edge.auto.o)) e₁.edge.ensures.1 e₂.split.ensures.1 (λ k. refl) e₃.edge-2.ensures.1,
     )
 
 -- what the parts and the other calls ask is found
-pub halves-spec : {M : Type 1} → statement M
-halves-spec =
+pub halves_spec : {M : Type 1} → statement M
+halves_spec =
     tie.close
     (tie.spec
     (λ c. search rules)
