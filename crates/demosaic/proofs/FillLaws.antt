@@ -31,6 +31,6 @@ fill-even h g s = ap clamp (unclamped-even h g s)
 -- what the code shifts, by as many bits as make the 2h
 pub shift-fills : (h g n half : ℕ) {r s z : ℤ} → s ≡ z → (r ≡ pos n -ℤ s +ℤ pos half) × (nat_abs r ≤ 4456382) → n ≡ 2 * h * g → half ≡ h → to_z w32 (of_z w32 (shr_z (to_z w32 (of_z w32 r)) (2 * h))) ≡ unclamped (2 * h) g z
 shift-fills h g n half {r} {s} {z} e p i j =
-    shifted (int r 4456382 p.1) (2 * h) tt
+    shifted {w = w32} (int r 4456382 p.1) (2 * h) tt
     ∙ ap (λ u. floor_div u (2 * h)) (p.0 ∙ ap₂ (λ m k. pos m -ℤ s +ℤ pos k) i j ∙ ap (λ u. pos (2 * h * g) -ℤ u +ℤ pos h) e)
     ∙ sym (unclamped-even h g z)

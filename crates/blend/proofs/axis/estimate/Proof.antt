@@ -13,7 +13,7 @@ use Rattle.blend.proofs.axis.estimate.Tie as tie
 abbrev difference : tie.Start → E w16
 difference c = let a = c.args in nat (2 * (a.l + a.r + a.c)) 24570 (omega arith) ⊖ nat (a.p + a.q) 8190 (omega arith)
 
-sub-result : tie.Need-overflow-sub-result
+sub-result : tie.Need-overflow_sub-result
 sub-result c = asked (difference c) tt
 
 returns : tie.Need-returns
@@ -24,8 +24,8 @@ returns c =
     ∙ eq-by (natₚ (2 * (a.l + a.r + a.c)) -ₚ natₚ (a.p + a.q)) (2 *ₚ (natₚ a.l +ₚ natₚ a.r) +ₚ 2 *ₚ natₚ a.c -ₚ natₚ a.p -ₚ natₚ a.q) (omega arith)
 
 -- no sum of readings wraps
-pub estimate-spec : {M : Type 1} → statement M
-estimate-spec =
+pub estimate_spec : {M : Type 1} → statement M
+estimate_spec =
     tie.close
     (tie.spec
     (λ c. search rules)

@@ -21,17 +21,17 @@ held : (n : ℕ) → n ≤ 32768 → SFits w16 (neg_ℤ (pos n))
 held zero h = record { sfits = omega arith }
 held (suc n) h = record { sfits = omega arith }
 
-cast-result : tie.Need-overflow-cast-result
+cast-result : tie.Need-overflow_cast-result
 cast-result c = search rules
 
-sub-result : tie.Need-overflow-sub-result
+sub-result : tie.Need-overflow_sub-result
 sub-result c = asked (difference c) tt
 
-cast-result-2 : tie.Need-overflow-cast-result-2
+cast-result-2 : tie.Need-overflow_cast-result-2
 cast-result-2 c = rw (is c) (held (32768 - c.args.weight) (omega arith))
 
 returns : tie.Need-returns
 returns c = back w16 (to_z w32 (bits (difference c))) (is c) (held (32768 - c.args.weight) (omega arith))
 
-pub below-half-spec : {M : Type 1} → statement M
-below-half-spec = tie.close (tie.spec cast-result sub-result cast-result-2 returns)
+pub below_half_spec : {M : Type 1} → statement M
+below_half_spec = tie.close (tie.spec cast-result sub-result cast-result-2 returns)

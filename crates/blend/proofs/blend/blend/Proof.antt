@@ -43,43 +43,43 @@ column c = «as» w16 (int c.args.column.estimate 24570 c.requires.1.across)
 abbrev start : tie.After-gap → tie.Start
 start c = c.before.before
 
-abbrev gone : tie.After-struct-told2 → tie.After-gap
+abbrev gone : tie.After-struct_told-2-1 → tie.After-gap
 gone c = c.before.before.before.before
 
 abbrev sum : tie.After-gap → E w32
 sum c = lit 2 ⊗ (row (start c) ⊕ column (start c)) ⊕ shift c
 
-below-half-requires : tie.Need-below-half-requires
+below-half-requires : tie.Need-below_half-requires
 below-half-requires c κs = rw c.requires.0 (weight-small _)
 
-cast-product : tie.Need-overflow-cast-product
+cast-product : tie.Need-overflow_cast-product
 cast-product c = wide-cast w16 c.below_half.result (sfits_of c.below_half.type-inv) (lit< tt)
 
 gap-requires : tie.Need-gap-requires
 gap-requires c κs = search rules
 
-cast-product-2 : tie.Need-overflow-cast-product-2
+cast-product-2 : tie.Need-overflow_cast-product-2
 cast-product-2 c = wide-cast w16 c.gap.result (sfits_of c.gap.type-inv) (lit< tt)
 
-mul-product : tie.Need-overflow-mul-product
+mul-product : tie.Need-overflow_mul-product
 mul-product c = asked (product c) tt
 
-cast-clamp : tie.Need-overflow-cast-clamp
+cast-clamp : tie.Need-overflow_cast-row
 cast-clamp c = asked (row (start c.before.before)) tt
 
-cast-clamp-2 : tie.Need-overflow-cast-clamp-2
+cast-clamp-2 : tie.Need-overflow_cast-column
 cast-clamp-2 c = asked (column (start (gone c))) tt
 
-add-clamp : tie.Need-overflow-add-clamp
+add-clamp : tie.Need-overflow_add-row
 add-clamp c = asked (row (start (gone c)) ⊕ column (start (gone c))) tt
 
-mul-clamp : tie.Need-overflow-mul-clamp
+mul-clamp : tie.Need-overflow_mul-row
 mul-clamp c = asked (lit 2 ⊗ (row (start (gone c)) ⊕ column (start (gone c)))) tt
 
-add-clamp-2 : tie.Need-overflow-add-clamp-2
+add-clamp-2 : tie.Need-overflow_add-product
 add-clamp-2 c = asked (lifted (gone c)) tt
 
-add-clamp-3 : tie.Need-overflow-add-clamp-3
+add-clamp-3 : tie.Need-overflow_add-row-2
 add-clamp-3 c = asked (sum (gone c)) tt
 
 clamp-requires : tie.Need-clamp-requires
@@ -93,8 +93,8 @@ returns c =
     ∙ ap clamp (value (sum g) tt ∙ (λ t. pos 2 *ℤ (s.args.row.estimate +ℤ s.args.column.estimate) +ℤ floor_div (g.before.below_half.ensures t *ℤ g.gap.ensures t +ℤ pos 8192) 16384))
     ∙ blend-coded s.args.row s.args.column s.args.weight s.pre.0
 
-pub blend-spec : {M : Type 1} → statement M
-blend-spec =
+pub blend_spec : {M : Type 1} → statement M
+blend_spec =
     tie.close
     (tie.spec
     below-half-requires

@@ -42,23 +42,23 @@ turned {more} {less} f = record {
   apart = omega (arith, f.apart, abs-by (anyₚ more.estimate -ₚ anyₚ less.estimate), abs-by (anyₚ less.estimate -ₚ anyₚ more.estimate));
 }
 
-abbrev then : tie.After-struct-told2 → tie.Then1
+abbrev then : tie.After-struct_told-then-column-row-1 → tie.Then-column-row
 then c = c.before.before.before.before
 
-abbrev else : tie.After-struct-told4 → tie.Else1
+abbrev else : tie.After-struct_told-else-column-row-2-1 → tie.Else-column-row
 else c = c.before.before.before.before
 
-sub-result : tie.Need-overflow-sub-result
+sub-result : tie.Need-overflow_sub-result
 sub-result c = asked (then c).before.before.before.requires
 
-sub-result-2 : tie.Need-overflow-sub-result-2
+sub-result-2 : tie.Need-overflow_sub-result-else-column-row
 sub-result-2 c = asked (turned (else c).before.before.before.requires)
 
-returns : tie.Need-returns
-returns c = rw (lt-ltb _ _ (then c).if1.true) (value (then c).before.before.before.requires)
+returns : tie.Need-returns-then-column-row
+returns c = rw (lt-ltb _ _ (then c).if-column-row.true) (value (then c).before.before.before.requires)
 
-returns-2 : tie.Need-returns-2
-returns-2 c = rw (le-ltb _ _ (else c).if1.false) (value (turned (else c).before.before.before.requires))
+returns-2 : tie.Need-returns-else-column-row
+returns-2 c = rw (le-ltb _ _ (else c).if-column-row.false) (value (turned (else c).before.before.before.requires))
 
-pub gap-spec : {M : Type 1} → statement M
-gap-spec = tie.close (tie.spec sub-result sub-result-2 returns returns-2)
+pub gap_spec : {M : Type 1} → statement M
+gap_spec = tie.close (tie.spec sub-result sub-result-2 returns returns-2)

@@ -17,20 +17,20 @@ scaled c = lit 16 ⊗ nat c.args.reading 65535 (omega arith)
 abbrev less : tie.Start → E w32
 less c = nat c.args.green 65535 (omega arith) ⊖ scaled c
 
-cast-result : tie.Need-overflow-cast-result
+cast-result : tie.Need-overflow_cast-result
 cast-result c = search rules
 
-cast-result-2 : tie.Need-overflow-cast-result-2
+cast-result-2 : tie.Need-overflow_cast-result-2
 cast-result-2 c = search rules
 
-mul-result : tie.Need-overflow-mul-result
+mul-result : tie.Need-overflow_mul-result
 mul-result c = asked (scaled c) tt
 
-sub-result : tie.Need-overflow-sub-result
+sub-result : tie.Need-overflow_sub-result
 sub-result c = asked (less c) tt
 
 returns : tie.Need-returns
 returns c = let e = value (less c) tt in (e, le_trans (le_of_eq (ap nat_abs e)) (within_by (natₚ c.args.green -ₚ natₚ (16 * c.args.reading)) (omega arith) (omega arith)))
 
-pub colour-difference-spec : {M : Type 1} → statement M
-colour-difference-spec = tie.close (tie.spec cast-result cast-result-2 mul-result sub-result returns)
+pub colour_difference_spec : {M : Type 1} → statement M
+colour_difference_spec = tie.close (tie.spec cast-result cast-result-2 mul-result sub-result returns)

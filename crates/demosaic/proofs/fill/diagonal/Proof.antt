@@ -18,16 +18,16 @@ below c = int c.args.sw 1048560 c.requires.2 ⊕ int c.args.se 1048560 c.require
 abbrev sum : tie.Start → E w32
 sum c = above c ⊕ below c
 
-mul-lifted : tie.Need-overflow-mul-lifted
+mul-lifted : tie.Need-overflow_mul-g
 mul-lifted c = search rules
 
-add-lifted : tie.Need-overflow-add-lifted
+add-lifted : tie.Need-overflow_add-nw
 add-lifted c = asked (above c) tt
 
-add-lifted-2 : tie.Need-overflow-add-lifted-2
+add-lifted-2 : tie.Need-overflow_add-sw
 add-lifted-2 c = asked (below c) tt
 
-add-lifted-3 : tie.Need-overflow-add-lifted-3
+add-lifted-3 : tie.Need-overflow_add-nw-2
 add-lifted-3 c = asked (sum c) tt
 
 lifted-requires : tie.Need-lifted-requires
@@ -38,8 +38,8 @@ returns c =
     let s = c.before in
     shift-fills 2 s.args.g _ _ (value (sum s) tt ∙ four-terms s.args.nw s.args.ne s.args.sw s.args.se) c.lifted.ensures (omega arith) (omega arith)
 
-pub diagonal-spec : {M : Type 1} → statement M
-diagonal-spec =
+pub diagonal_spec : {M : Type 1} → statement M
+diagonal_spec =
     tie.close
     (tie.spec
     mul-lifted

@@ -11,20 +11,20 @@ less c = nat c.args.n 262140 c.requires.0 ⊖ int c.args.sum 4194240 c.requires.
 abbrev lifted : tie.Start → E w32
 lifted c = less c ⊕ nat c.args.half 2 c.requires.2
 
-cast-result : tie.Need-overflow-cast-result
+cast-result : tie.Need-overflow_cast-result
 cast-result c = search rules
 
-sub-result : tie.Need-overflow-sub-result
+sub-result : tie.Need-overflow_sub-result
 sub-result c = asked (less c) tt
 
-cast-result-2 : tie.Need-overflow-cast-result-2
+cast-result-2 : tie.Need-overflow_cast-result-2
 cast-result-2 c = search rules
 
-add-result : tie.Need-overflow-add-result
+add-result : tie.Need-overflow_add-result
 add-result c = asked (lifted c) tt
 
 returns : tie.Need-returns
 returns c = (value (lifted c) tt, bounded (lifted c) tt)
 
-pub lifted-spec : {M : Type 1} → statement M
-lifted-spec = tie.close (tie.spec cast-result sub-result cast-result-2 add-result returns)
+pub lifted_spec : {M : Type 1} → statement M
+lifted_spec = tie.close (tie.spec cast-result sub-result cast-result-2 add-result returns)

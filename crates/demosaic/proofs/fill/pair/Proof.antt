@@ -12,10 +12,10 @@ use borrow.Author.Rules.{rules}
 abbrev sum : tie.Start → E w32
 sum c = int c.args.before 1048560 c.requires.0 ⊕ int c.args.after 1048560 c.requires.1
 
-mul-lifted : tie.Need-overflow-mul-lifted
+mul-lifted : tie.Need-overflow_mul-g
 mul-lifted c = search rules
 
-add-lifted : tie.Need-overflow-add-lifted
+add-lifted : tie.Need-overflow_add-before
 add-lifted c = asked (sum c) tt
 
 lifted-requires : tie.Need-lifted-requires

@@ -6,7 +6,7 @@ use Rattle.fusion.proofs.MeanLaws.{mean-fits, mean-is}
 use Rattle.fusion.proofs.mean.mean.Statement.{statement}
 use Rattle.fusion.proofs.mean.mean.Tie as tie
 
-float-to-int-result : tie.Need-float-to-int-result
+float-to-int-result : tie.Need-float_to_int-result
 float-to-int-result c =
     let p = c.before.requires in
     mean-fits (val c.before.args.n) (val c.before.args.u) p.2 p.1.most p.3 (search (numbers, literals)) (search (numbers, literals)) (simp values) (simp values)
@@ -16,5 +16,5 @@ returns c =
     let p = c.before.requires in
     mean-is (val c.before.args.n) (val c.before.args.u) p.2 p.1.most p.3 (search (numbers, literals)) (search (numbers, literals)) (simp values) (simp values)
 
-pub mean-spec : {M : Type 1} → statement M
-mean-spec = tie.close (tie.spec float-to-int-result returns)
+pub mean_spec : {M : Type 1} → statement M
+mean_spec = tie.close (tie.spec float-to-int-result returns)

@@ -24,7 +24,7 @@ small-added k z h e = record { value = z; pair = anyₚ z; is = refl; within = l
 abbrev unitsₚ : (c : tie.Start) → Pair (pos (16 * c.args.c) +ℤ c.args.added)
 unitsₚ c = natₚ (16 * c.args.c) +ₚ anyₚ c.args.added
 
-add-clamp : tie.Need-overflow-add-clamp
+add-clamp : tie.Need-overflow_add-c
 add-clamp c = search (small, small-added, c.requires, c.ranges.c) depth 20
 
 -- z stands where the sum asks for it
@@ -35,8 +35,8 @@ clamped c {z} f h s e = let v = equal s (unitsₚ c) e in h ∙ ap clamp (back w
 returns : tie.Need-returns
 returns c = let s = c.before in clamped s (add-clamp s) c.clamp.ensures (search (small, small-added, s.requires, s.ranges.c) depth 20) (omega arith)
 
-pub green-spec : {M : Type 1} → statement M
-green-spec =
+pub green_spec : {M : Type 1} → statement M
+green_spec =
     tie.close
     (tie.spec
     (λ c. search rules)

@@ -14,5 +14,5 @@ returns c =
     let p = c.before.requires in
     exceeds-law (val a.q) (val a.z) (val a.y) a.q c.scaled.result a.y p.0.whole c.scaled.ensures p.2.whole p.0.most p.1.most p.2.most
 
-pub exceeds-spec : {M : Type 1} → statement M
-exceeds-spec = tie.close (tie.spec scaled-requires returns)
+pub exceeds_spec : {M : Type 1} → statement M
+exceeds_spec = tie.close (tie.spec scaled-requires returns)

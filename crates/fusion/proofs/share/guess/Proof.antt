@@ -19,5 +19,5 @@ returns c =
     let w = whole_is _ g.0 16777217 g.4 (omega (arith, g.2, g.3)) (lit< tt) in
     (w.0, rw w.1 g.1, rw w.1 g.2)
 
-pub guess-spec : {M : Type 1} → statement M
-guess-spec = tie.close (tie.spec scaled-requires returns)
+pub guess_spec : {M : Type 1} → statement M
+guess_spec = tie.close (tie.spec scaled-requires returns)

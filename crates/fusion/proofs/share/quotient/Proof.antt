@@ -11,13 +11,13 @@ use Rattle.fusion.proofs.ShareLaws.{corrected}
 use Rattle.fusion.proofs.share.quotient.Statement.{statement}
 use Rattle.fusion.proofs.share.quotient.Tie as tie
 
-guess-requires : tie.Need-guess-requires
+guess-requires : tie.Need-guess-q-requires
 guess-requires c κs = search rules
 
 exceeds-requires : tie.Need-exceeds-requires
 exceeds-requires c κs = search rules
 
-one-if-requires : tie.Need-one-if-requires
+one-if-requires : tie.Need-one_if-requires
 one-if-requires c κs = search rules
 
 returns : tie.Need-returns
@@ -25,9 +25,9 @@ returns c =
     let e = c.before in
     let g = e.before in
     let p = g.before.requires in
-    let q = g.guess.ensures in
+    let q = g.guess-q.ensures in
     let k = corrected _ _ _ e.exceeds.result (omega arith) q.1 q.2 e.exceeds.ensures in
-    whole_is _ _ 16777216 (less _ q.0 (lit< tt) c.one-if.ensures k.0 ∙ ap float k.1) (div-le_of_le-mul _ (omega arith)) (lit< tt)
+    whole_is _ _ 16777216 (less _ q.0 (lit< tt) c.one_if.ensures k.0 ∙ ap float k.1) (div-le_of_le-mul _ (omega arith)) (lit< tt)
 
-pub quotient-spec : {M : Type 1} → statement M
-quotient-spec = tie.close (tie.spec guess-requires exceeds-requires one-if-requires returns)
+pub quotient_spec : {M : Type 1} → statement M
+quotient_spec = tie.close (tie.spec guess-requires exceeds-requires one-if-requires returns)

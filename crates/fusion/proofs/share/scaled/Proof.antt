@@ -7,5 +7,5 @@ use Rattle.fusion.proofs.share.scaled.Tie as tie
 returns : tie.Need-returns
 returns c = scaled-law c.requires scale-is
 
-pub scaled-spec : {M : Type 1} → statement M
-scaled-spec = tie.close (tie.spec returns)
+pub scaled_spec : {M : Type 1} → statement M
+scaled_spec = tie.close (tie.spec returns)

@@ -11,5 +11,5 @@ quotient-requires c κs = asks (search numbers) (search numbers) (search mul-pos
 returns : tie.Need-returns
 returns c = let q = c.quotient.ensures in (q.0, told q.1 (search numbers) (search numbers))
 
-pub share-spec : {M : Type 1} → statement M
-share-spec = tie.close (tie.spec quotient-requires returns)
+pub share_spec : {M : Type 1} → statement M
+share_spec = tie.close (tie.spec quotient-requires returns)

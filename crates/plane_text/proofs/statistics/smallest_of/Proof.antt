@@ -8,47 +8,47 @@ use Rattle.plane_text.proofs.FoldLaws.{Reached, reached-first, reached-next, rea
 use Rattle.plane_text.proofs.statistics.smallest_of.Statement.{statement}
 use Rattle.plane_text.proofs.statistics.smallest_of.Tie as tie
 
-abbrev invariant-loop : tie.invariant-loop
+abbrev invariant-loop : tie.invariant-loop-i
 invariant-loop plane low₀ i₀ low i = Reached min plane (smallest plane) low i
 
-abbrev decreases-loop : tie.decreases-loop
+abbrev decreases-loop : tie.decreases-loop-i
 decreases-loop plane low₀ i₀ low i = length plane - i
 
-returns : tie.Need-returns invariant-loop decreases-loop
-returns c = folded-none min _ c.if1.true
+returns : tie.Need-returns-then-plane-eq0 invariant-loop decreases-loop
+returns c = folded-none min _ c.if-plane-eq0.true
 
-shared-slice-read-low : tie.Need-shared-slice-read-low invariant-loop decreases-loop
+shared-slice-read-low : tie.Need-bounds-plane-0 invariant-loop decreases-loop
 shared-slice-read-low c = omega arith
 
-loop-holds : tie.Need-loop-init invariant-loop decreases-loop
+loop-holds : tie.Need-loop-i-init invariant-loop decreases-loop
 loop-holds c = reached-first _ (omega arith)
 
-mul-if2 : tie.Need-overflow-mul-if2 invariant-loop decreases-loop
+mul-if2 : tie.Need-offset_bounds-plane-i invariant-loop decreases-loop
 mul-if2 c = omega arith
 
-shared-slice-read-if2 : tie.Need-shared-slice-read-if2 invariant-loop decreases-loop
+shared-slice-read-if2 : tie.Need-bounds-plane-i invariant-loop decreases-loop
 shared-slice-read-if2 c = omega arith
 
-mul_low : tie.Need-overflow-mul-low invariant-loop decreases-loop
+mul_low : tie.Need-offset_bounds-plane-i-then-plane-i invariant-loop decreases-loop
 mul_low c = omega arith
 
-shared-slice-read-low-2 : tie.Need-shared-slice-read-low-2 invariant-loop decreases-loop
+shared-slice-read-low-2 : tie.Need-bounds-plane-i-then-plane-i invariant-loop decreases-loop
 shared-slice-read-low-2 c = omega arith
 
-add-i : tie.Need-overflow-add-i invariant-loop decreases-loop
+add-i : tie.Need-overflow_add-i invariant-loop decreases-loop
 add-i c = omega arith
 
-loop-less : tie.Need-loop-smaller invariant-loop decreases-loop
+loop-less : tie.Need-loop-i-smaller invariant-loop decreases-loop
 loop-less c = omega arith
 
-loop-again : tie.Need-loop-preserved invariant-loop decreases-loop
-loop-again c = reached-next c.before.before.before.loop.invariant (omega arith) (⊎_elim (λ w. omega arith) (λ w. omega arith) c.if2.branch)
+loop-again : tie.Need-loop-i-preserved invariant-loop decreases-loop
+loop-again c = reached-next c.before.before.before.loop-i.invariant (omega arith) (⊎_elim (λ w. omega arith) (λ w. omega arith) c.if-plane-i.branch)
 
-returns-2 : tie.Need-returns-2 invariant-loop decreases-loop
-returns-2 c = reached-end c.before.loop.invariant (omega arith)
+returns-2 : tie.Need-returns invariant-loop decreases-loop
+returns-2 c = reached-end c.before.loop-i.invariant (omega arith)
 
-pub smallest-of-spec : {M : Type 1} → statement M
-smallest-of-spec =
+pub smallest_of_spec : {M : Type 1} → statement M
+smallest_of_spec =
     tie.close
     (tie.spec
     invariant-loop
