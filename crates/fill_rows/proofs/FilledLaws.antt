@@ -19,7 +19,7 @@ taken l k = to_z w32 (of_z w32 (entry l k))
 
 -- what is read is what is there, if it is small
 pub taken_is : (l : List ℤ) (k : ℕ) {z : ℤ} → entry l k ≡ z → nat_abs z ≤ 1048560 → taken l k ≡ z
-taken_is l k {z} e h = ap (λ z. to_z w32 (of_z w32 z)) e ∙ value (int z 1048560 h) tt
+taken_is l k {z} e h = ap (λ z. to_z w32 (of_z w32 z)) e ∙ value {w = w32} (int z 1048560 h) tt
 
 taken-within : (l : List ℤ) → AllWithin 1048560 l → (k : ℕ) → nat_abs (taken l k) ≤ 1048560
 taken-within l h k = bounded (int {w = w32} (entry l k) 1048560 (h k)) tt

@@ -24,7 +24,7 @@ floor-within (negsuc n) d h = omega (arith, div-le_self n d)
 
 abbrev product : tie.After-gap → E w32
 product c =
-    widened w16 c.before.below_half.result (sfits_of c.before.below_half.type-inv) (lit< tt) ⊗ widened w16 c.gap.result (sfits_of c.gap.type-inv) (lit< tt)
+    widened w16 c.before.below_half.result (sfits_of c.before.below_half.type_inv) (lit< tt) ⊗ widened w16 c.gap.result (sfits_of c.gap.type_inv) (lit< tt)
 
 abbrev lifted : tie.After-gap → E w32
 lifted c = product c ⊕ lit 8192
@@ -53,13 +53,13 @@ below-half-requires : tie.Need-below_half-requires
 below-half-requires c κs = rw c.requires.0 (weight-small _)
 
 cast-product : tie.Need-overflow_cast-product
-cast-product c = wide-cast w16 c.below_half.result (sfits_of c.below_half.type-inv) (lit< tt)
+cast-product c = wide-cast w16 c.below_half.result (sfits_of c.below_half.type_inv) (lit< tt)
 
 gap-requires : tie.Need-gap-requires
 gap-requires c κs = search rules
 
 cast-product-2 : tie.Need-overflow_cast-product-2
-cast-product-2 c = wide-cast w16 c.gap.result (sfits_of c.gap.type-inv) (lit< tt)
+cast-product-2 c = wide-cast w16 c.gap.result (sfits_of c.gap.type_inv) (lit< tt)
 
 mul-product : tie.Need-overflow_mul-product
 mul-product c = asked (product c) tt
@@ -91,7 +91,7 @@ returns c =
     let s = start g in
     c.clamp.ensures
     ∙ ap clamp (value (sum g) tt ∙ (λ t. pos 2 *ℤ (s.args.row.estimate +ℤ s.args.column.estimate) +ℤ floor_div (g.before.below_half.ensures t *ℤ g.gap.ensures t +ℤ pos 8192) 16384))
-    ∙ blend-coded s.args.row s.args.column s.args.weight s.pre.0
+    ∙ blend-coded s.args.row s.args.column s.args.weight s.requires.0
 
 pub blend_spec : {M : Type 1} → statement M
 blend_spec =

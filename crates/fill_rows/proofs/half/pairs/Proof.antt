@@ -13,77 +13,77 @@ use Rattle.fill_rows.proofs.FilledLaws.{two-within, two-same}
 use Rattle.fill_rows.proofs.half.pairs.Statement.{statement}
 use Rattle.fill_rows.proofs.half.pairs.Tie as tie
 
-abbrev invariant-loop : tie.invariant-loop
+abbrev invariant-loop : tie.invariant-loop-k
 invariant-loop g a b out₀ k₀ out k = (k ≤ length out₀) × Filled (pair_in g a b) k out₀ out
 
-abbrev decreases-loop : tie.decreases-loop
+abbrev decreases-loop : tie.decreases-loop-k
 decreases-loop g a b out₀ k₀ out k = length out₀ - k
 
-loop-holds : tie.Need-loop-init invariant-loop decreases-loop
+loop-holds : tie.Need-loop-k-init invariant-loop decreases-loop
 loop-holds c = (omega arith, (table_none _ _, refl))
 
-mul-pair : tie.Need-overflow-mul-pair invariant-loop decreases-loop
+mul-pair : tie.Need-overflow_mul-k invariant-loop decreases-loop
 mul-pair c = omega arith
 
-mul-pair-2 : tie.Need-overflow-mul-pair-2 invariant-loop decreases-loop
+mul-pair-2 : tie.Need-offset_bounds-g-k invariant-loop decreases-loop
 mul-pair-2 c = omega arith
 
-shared-slice-read-pair : tie.Need-shared-slice-read-pair invariant-loop decreases-loop
+shared-slice-read-pair : tie.Need-bounds-g-k invariant-loop decreases-loop
 shared-slice-read-pair c = omega arith
 
-mul-pair-3 : tie.Need-overflow-mul-pair-3 invariant-loop decreases-loop
+mul-pair-3 : tie.Need-offset_bounds-a-k invariant-loop decreases-loop
 mul-pair-3 c = omega arith
 
-shared-slice-copy-out-pair : tie.Need-shared-slice-copy-out-pair invariant-loop decreases-loop
+shared-slice-copy-out-pair : tie.Need-bounds-a-k invariant-loop decreases-loop
 shared-slice-copy-out-pair c = omega arith
 
-mul-pair-4 : tie.Need-overflow-mul-pair-4 invariant-loop decreases-loop
+mul-pair-4 : tie.Need-offset_bounds-b-k invariant-loop decreases-loop
 mul-pair-4 c = omega arith
 
-shared-slice-copy-out-pair-2 : tie.Need-shared-slice-copy-out-pair-2 invariant-loop decreases-loop
+shared-slice-copy-out-pair-2 : tie.Need-bounds-b-k invariant-loop decreases-loop
 shared-slice-copy-out-pair-2 c = omega arith
 
 pair-requires : tie.Need-pair-requires invariant-loop decreases-loop
 pair-requires c κs =
     let l = c.before.before.before.before in
     let s = l.before.before.before in
-    two-within s.args.a.now s.args.b.now s.requires.1.0 s.requires.1.1 l.loop.k
+    two-within s.args.a.now s.args.b.now s.requires.1.0 s.requires.1.1 l.loop-k.k
 
 clamp-requires : tie.Need-clamp-requires invariant-loop decreases-loop
 clamp-requires c κs = tt
 
-mul-out : tie.Need-overflow-mul-out invariant-loop decreases-loop
+mul-out : tie.Need-offset_bounds-out-k invariant-loop decreases-loop
 mul-out c = omega arith
 
-slice-write-out : tie.Need-slice-write-out invariant-loop decreases-loop
+slice-write-out : tie.Need-bounds-out-k invariant-loop decreases-loop
 slice-write-out c = omega arith
 
-add-k : tie.Need-overflow-add-k invariant-loop decreases-loop
+add-k : tie.Need-overflow_add-k invariant-loop decreases-loop
 add-k c = omega arith
 
-loop-less : tie.Need-loop-smaller invariant-loop decreases-loop
+loop-less : tie.Need-loop-k-smaller invariant-loop decreases-loop
 loop-less c = omega arith
 
-loop-again : tie.Need-loop-preserved invariant-loop decreases-loop
+loop-again : tie.Need-loop-k-preserved invariant-loop decreases-loop
 unfolding pair_in fill
 loop-again c =
     let p = c.before in
     let l = p.before.before.before.before.before in
     let s = l.before.before.before in
-    let k = l.loop.k in
-    let read = read_result w32 _ p.pair.type-inv p.pair.ensures ∙ two-same s.args.a.now s.args.b.now s.requires.1.0 s.requires.1.1 (get_or s.args.g.now (2 * k) 0) k in
-    (omega arith, table-turn _ k _ (omega arith) l.loop.invariant.1 (c.clamp.ensures ∙ ap clamp read))
+    let k = l.loop-k.k in
+    let read = read_result w32 _ p.pair.type_inv p.pair.ensures ∙ two-same s.args.a.now s.args.b.now s.requires.1.0 s.requires.1.1 (get_or s.args.g.now (2 * k) 0) k in
+    (omega arith, table-turn _ k _ (omega arith) l.loop-k.invariant.1 (c.clamp.ensures ∙ ap clamp read))
 
-same_length : tie.Need-same-length invariant-loop decreases-loop
+same_length : tie.Need-shape_of-out invariant-loop decreases-loop
 same_length c = omega arith
 
 returns : tie.Need-returns invariant-loop decreases-loop
 returns c =
-    let l = c.before.loop in
+    let l = c.before.loop-k in
     l.invariant.1.0 ∙ table_done _ l.k _ _ l.invariant.0 (omega arith) refl
 
-pub pairs-spec : {M : Type 1} → statement M
-pairs-spec =
+pub pairs_spec : {M : Type 1} → statement M
+pairs_spec =
     tie.close
     (tie.spec
     invariant-loop

@@ -10,14 +10,14 @@ use Rattle.fill_rows.proofs.rows.other_row.Tie as tie
 use borrow.Author.Rules.{rules}
 
 -- the entry, and the half rows
-abbrev start : tie.After-diagonals-arg4 → tie.Start
+abbrev start : tie.After-diagonals-arg-4-1 → tie.Start
 start c = c.before.before.before.before.before.before.before.before
 
-abbrev first : tie.After-pairs-arg4 → tie.After-diagonals
+abbrev first : tie.After-pairs-arg-4-1 → tie.After-diagonals
 first c = c.before.before.before.before.before.before
 
-abbrev second : tie.After-interleave-arg3 → tie.After-pairs
-second c = c.before.before.before.before.before.before.before
+abbrev second : tie.After-interleave-arg-3-1 → tie.After-pairs
+second c = c.before.before.before.before.before
 
 module _ (s : tie.Start) where
   abbrev w : ℕ
@@ -27,44 +27,44 @@ module _ (s : tie.Start) where
   m = pixels w s.args.odd
 
   first-cut : length (take (m - 0) s.args.p.now) ≡ m
-  first-cut = cut-first w s.args.odd s.pre.0.0 s.args.p.now s.pre.1.1.0
+  first-cut = cut-first w s.args.odd s.requires.0.0 s.args.p.now s.requires.1.1.0
 
   second-cut : length (take (w - m - 0) s.args.q.now) ≡ w - m
-  second-cut = cut-second w s.args.odd s.pre.0.0 s.args.q.now s.pre.1.1.1
+  second-cut = cut-second w s.args.odd s.requires.0.0 s.args.q.now s.requires.1.1.1
 
 diagonals-requires : tie.Need-diagonals-requires
 diagonals-requires c κs =
     let s = start c in
     let d = s.args.above.now in
     let e = s.args.below.now in (
-      diagonals-fit (w s) s.args.odd s.pre.0.0 s.args.g.now refl (omega arith) d e s.pre.0.3 s.pre.0.4 (first-cut s),
-      (within-from _ d s.pre.1.0.0, within-from _ e s.pre.1.0.1),
+      diagonals-fit (w s) s.args.odd s.requires.0.0 s.args.g.now refl (omega arith) d e s.requires.0.3 s.requires.0.4 (first-cut s),
+      (within-from _ d s.requires.1.0.0, within-from _ e s.requires.1.0.1),
     )
 
-part-pairs-end-4 : tie.Need-slice-bounds-pairs-end-4
-part-pairs-end-4 c = let s = start c.before.before.before.before.before.before in (halves-fit (w s) s.args.odd s.pre.0.0 (length s.args.q.now) s.pre.1.1.1).1
+part-pairs-end-4 : tie.Need-slice_bounds-pairs-end-4
+part-pairs-end-4 c = let s = start c.before.before.before.before.before.before in (halves-fit (w s) s.args.odd s.requires.0.0 (length s.args.q.now) s.requires.1.1.1).1
 
 pairs-requires : tie.Need-pairs-requires
 pairs-requires c κs =
     let s = start (first c).before in
     let d = s.args.above.now in
     let e = s.args.below.now in (
-      pairs-fit (w s) s.args.odd s.pre.0.0 s.args.g.now refl (omega arith) d e s.pre.0.3 s.pre.0.4 _ _ (omega arith) (omega arith) (second-cut s),
-      (within-from _ d s.pre.1.0.0, within-from _ e s.pre.1.0.1),
+      pairs-fit (w s) s.args.odd s.requires.0.0 s.args.g.now refl (omega arith) d e s.requires.0.3 s.requires.0.4 _ _ (omega arith) (omega arith) (second-cut s),
+      (within-from _ d s.requires.1.0.0, within-from _ e s.requires.1.0.1),
     )
 
-part-interleave-end : tie.Need-slice-bounds-interleave-end
-part-interleave-end c = let p = first c.before.before.before.before in let s = start p.before in front_fits (m s) _ _ (first-cut s) p.diagonals.ensures
+part-interleave-end : tie.Need-slice_bounds-interleave-end
+part-interleave-end c = let p = first c.before.before.before in let s = start p.before in front_fits (m s) _ _ (first-cut s) p.diagonals.ensures
 
-part-interleave-end-2 : tie.Need-slice-bounds-interleave-end-2
-part-interleave-end-2 c = let q = c.before.before.before.before.before in let s = start (first q.before).before in front_fits (w s - m s) _ _ (second-cut s) q.pairs.ensures
+part-interleave-end-2 : tie.Need-slice_bounds-interleave-end-2
+part-interleave-end-2 c = let q = c.before.before.before in let s = start (first q.before).before in front_fits (w s - m s) _ _ (second-cut s) q.pairs.ensures
 
 interleave-requires : tie.Need-interleave-requires
 interleave-requires c κs =
     let q = second c in
     let p = first q.before in
     let s = start p.before in
-    halves-make (w s) s.args.odd s.pre.0.0 (front_long (m s) _ _ (first-cut s) p.diagonals.ensures) (front_long (w s - m s) _ _ (second-cut s) q.pairs.ensures) s.pre.0.2
+    halves-make (w s) s.args.odd s.requires.0.0 (front_long (m s) _ _ (first-cut s) p.diagonals.ensures) (front_long (w s - m s) _ _ (second-cut s) q.pairs.ensures) s.requires.0.2
 
 returns : tie.Need-returns
 returns c =
@@ -73,12 +73,12 @@ returns c =
     let p = first q.before in
     let s = start p.before in
     let a = s.args in
-    other-done a.odd a.g.now a.above.now a.below.now s.pre.0.0 s.pre.0.3 s.pre.0.4 s.pre.0.2
+    other-done a.odd a.g.now a.above.now a.below.now s.requires.0.0 s.requires.0.3 s.requires.0.4 s.requires.0.2
     (front (m s) _ _ (first-cut s) p.diagonals.ensures) (front (w s - m s) _ _ (second-cut s) q.pairs.ensures) r.interleave.ensures
 
 -- what else is asked is found
-pub other-row-spec : {M : Type 1} → statement M
-other-row-spec =
+pub other_row_spec : {M : Type 1} → statement M
+other_row_spec =
     tie.close
     (tie.spec
     (λ c. search rules)

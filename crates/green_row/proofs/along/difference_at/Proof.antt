@@ -11,11 +11,11 @@ difference-requires c κs =
     record { centre = h _; left = h _; right = h _; second = h _; other = h _ }
 
 returns : tie.Need-returns
-returns c = read_result w16 _ c.difference.type-inv c.difference.ensures.0
+returns c = read_result w16 _ c.difference.type_inv c.difference.ensures.0
 
 -- where the five are read is found to lie in x
-pub difference-at-spec : {M : Type 1} → statement M
-difference-at-spec =
+pub difference_at_spec : {M : Type 1} → statement M
+difference_at_spec =
     tie.close
     (tie.spec
     (λ c. search rules)

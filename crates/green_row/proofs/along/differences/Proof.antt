@@ -10,45 +10,45 @@ use Rattle.green_row.specs.AlongAxis.{difference_in}
 use Rattle.green_row.proofs.along.differences.Statement.{statement}
 use Rattle.green_row.proofs.along.differences.Tie as tie
 
-abbrev invariant-loop : tie.invariant-loop
+abbrev invariant-loop : tie.invariant-loop-k
 invariant-loop x step out₀ k₀ out k = (k ≤ length out₀) × Filled (difference_in step x) k out₀ out
 
-abbrev decreases-loop : tie.decreases-loop
+abbrev decreases-loop : tie.decreases-loop-k
 decreases-loop x step out₀ k₀ out k = length out₀ - k
 
-loop-holds : tie.Need-loop-init invariant-loop decreases-loop
+loop-holds : tie.Need-loop-k-init invariant-loop decreases-loop
 loop-holds c = (omega arith, (table_none _ _, refl))
 
-difference-at-requires : tie.Need-difference-at-requires invariant-loop decreases-loop
+difference-at-requires : tie.Need-difference_at-requires invariant-loop decreases-loop
 difference-at-requires c κs = (omega arith, c.before.before.before.requires.1)
 
-mul-t5 : tie.Need-overflow-mul-t5 invariant-loop decreases-loop
+mul-t5 : tie.Need-offset_bounds-out-k invariant-loop decreases-loop
 mul-t5 c = omega arith
 
-slice-set-from-out : tie.Need-slice-set-from-out invariant-loop decreases-loop
+slice-set-from-out : tie.Need-bounds-out-k invariant-loop decreases-loop
 slice-set-from-out c = omega arith
 
-add-k : tie.Need-overflow-add-k invariant-loop decreases-loop
+add-k : tie.Need-overflow_add-k invariant-loop decreases-loop
 add-k c = omega arith
 
-loop-less : tie.Need-loop-smaller invariant-loop decreases-loop
+loop-less : tie.Need-loop-k-smaller invariant-loop decreases-loop
 loop-less c = omega arith
 
-loop-again : tie.Need-loop-preserved invariant-loop decreases-loop
+loop-again : tie.Need-loop-k-preserved invariant-loop decreases-loop
 loop-again c =
-    let l = c.before.before.loop in
-    (omega arith, table-turn _ l.k _ (omega arith) l.invariant.1 (read_result w16 _ c.difference-at.type-inv c.difference-at.ensures))
+    let l = c.before.before.loop-k in
+    (omega arith, table-turn _ l.k _ (omega arith) l.invariant.1 (read_result w16 _ c.difference_at.type_inv c.difference_at.ensures))
 
-same_length : tie.Need-same-length invariant-loop decreases-loop
+same_length : tie.Need-shape_of-out invariant-loop decreases-loop
 same_length c = omega arith
 
 returns : tie.Need-returns invariant-loop decreases-loop
 returns c =
-    let l = c.before.loop in
+    let l = c.before.loop-k in
     l.invariant.1.0 ∙ table_done _ l.k _ _ l.invariant.0 (omega arith) refl
 
-pub differences-spec : {M : Type 1} → statement M
-differences-spec =
+pub differences_spec : {M : Type 1} → statement M
+differences_spec =
     tie.close
     (tie.spec
     invariant-loop

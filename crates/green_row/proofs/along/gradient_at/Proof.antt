@@ -8,8 +8,8 @@ returns : tie.Need-returns
 returns c = omega arith
 
 -- what each call and each sum asks is found
-pub gradient-at-spec : {M : Type 1} → statement M
-gradient-at-spec =
+pub gradient_at_spec : {M : Type 1} → statement M
+gradient_at_spec =
     tie.close
     (tie.spec
     (λ c κs. search rules)

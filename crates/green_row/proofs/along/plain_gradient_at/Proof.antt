@@ -10,12 +10,12 @@ use Rattle.green_row.proofs.along.plain_gradient_at.Statement.{statement}
 use Rattle.green_row.proofs.along.plain_gradient_at.Tie as tie
 use borrow.Author.Rules.{rules}
 
-plain-gradient-requires : tie.Need-plain-gradient-requires
+plain-gradient-requires : tie.Need-plain_gradient-requires
 plain-gradient-requires c κs =
     let s = c.before.before in
     let a = s.args in
     let d = a.d.now in
-    le_trans (le_of_eq (ap₂ plain_gradient (read_at w16 d a.k c.before.plain-gradient-arg.given) (read_at w16 d (a.k + 2 * a.step) c.plain-gradient-arg2.given))) (s.requires.1 a.k)
+    le_trans (le_of_eq (ap₂ plain_gradient (read_at w16 d a.k c.before.plain_gradient-arg-1.given) (read_at w16 d (a.k + 2 * a.step) c.plain_gradient-arg-2-1.given))) (s.requires.1 a.k)
 
 returns : tie.Need-returns
 returns c =
@@ -23,13 +23,13 @@ returns c =
     let s = e.before.before in
     let a = s.args in
     let d = a.d.now in
-    let is : c.plain-gradient.result ≡ plain_gradient_in a.step d a.k =
-    c.plain-gradient.ensures ∙ ap₂ plain_gradient (read_at w16 d a.k e.before.plain-gradient-arg.given) (read_at w16 d (a.k + 2 * a.step) e.plain-gradient-arg2.given) in
+    let is : c.plain_gradient.result ≡ plain_gradient_in a.step d a.k =
+    c.plain_gradient.ensures ∙ ap₂ plain_gradient (read_at w16 d a.k e.before.plain_gradient-arg-1.given) (read_at w16 d (a.k + 2 * a.step) e.plain_gradient-arg-2-1.given) in
     (is, le_trans (le_of_eq is) (s.requires.1 a.k))
 
 -- where the two are read is found to lie in d
-pub plain-gradient-at-spec : {M : Type 1} → statement M
-plain-gradient-at-spec =
+pub plain_gradient_at_spec : {M : Type 1} → statement M
+plain_gradient_at_spec =
     tie.close
     (tie.spec
     (λ c. search rules)

@@ -10,16 +10,16 @@ use Rattle.green_row.proofs.directions.row_fives.Statement.{statement}
 use Rattle.green_row.proofs.directions.row_fives.Tie as tie
 
 -- before each call
-abbrev start : tie.After-fives-after → tie.Start
+abbrev start : tie.After-fives_after → tie.Start
 start c = c.before.before
 
-abbrev c₁ : tie.After-fives-before → tie.After-fives-after
+abbrev c₁ : tie.After-fives_before → tie.After-fives_after
 c₁ c = c.before.before.before
 
-abbrev c₂ : tie.After-fives-before2 → tie.After-fives-before
+abbrev c₂ : tie.After-fives_before-2 → tie.After-fives_before
 c₂ c = c.before.before.before
 
-abbrev c₃ : tie.After-fives-after2 → tie.After-fives-before2
+abbrev c₃ : tie.After-fives_after-2 → tie.After-fives_before-2
 c₃ c = c.before.before.before
 
 returns : tie.Need-returns
@@ -31,15 +31,15 @@ returns c =
     let k = start e₁ in
     let a = k.args in
     let ws = weights_of a.smoothing in
-    four-parts (λ k i. five_in ws a.s a.dh.now a.dv.now k (2 * i + a.side)) a.n a.f.now k.pre.4
-    e₁.fives-after.ensures (λ j. five-after ws 1 a.dh.now (omega arith))
-    e₂.fives-before.ensures (λ j. five-before ws 1 a.dh.now (omega arith))
-    e₃.fives-before2.ensures (λ j. five-before ws a.s a.dv.now (omega arith))
-    e₄.fives-after2.ensures (λ j. five-after ws a.s a.dv.now (omega arith))
+    four-parts (λ k i. five_in ws a.s a.dh.now a.dv.now k (2 * i + a.side)) a.n a.f.now k.requires.4
+    e₁.fives_after.ensures (λ j. five-after ws 1 a.dh.now (omega arith))
+    e₂.fives_before.ensures (λ j. five-before ws 1 a.dh.now (omega arith))
+    e₃.fives_before-2.ensures (λ j. five-before ws a.s a.dv.now (omega arith))
+    e₄.fives_after-2.ensures (λ j. five-after ws a.s a.dv.now (omega arith))
 
 -- what each call, each part and each sum asks is found
-pub row-fives-spec : {M : Type 1} → statement M
-row-fives-spec =
+pub row_fives_spec : {M : Type 1} → statement M
+row_fives_spec =
     tie.close
     (tie.spec
     (λ c. search rules)

@@ -46,49 +46,49 @@ whole row out {a} {b} {e} {m} {n} o h k p q r =
     let u : a ++ b ++ e ≡ table (column row) (7 + length row + n) = rw (p, q, r, h) (columns row n) in
     rw (middle (length row) out a b l) (placed-rest (length row + 7) (a ++ b) _ e g ∙ u ∙ ap (table (column row)) t)
 
-add-end : tie.Need-overflow-add-end
+add-end : tie.Need-overflow_add-end
 add-end c = omega arith
 
-sub-edge : tie.Need-overflow-sub-edge
+sub-edge : tie.Need-slice_bounds-edge-count
 sub-edge c = omega arith
 
-part-edge-start : tie.Need-slice-bounds-edge-start
+part-edge-start : tie.Need-slice_bounds-edge-start
 part-edge-start c = omega arith
 
-part-edge-end : tie.Need-slice-bounds-edge-end
+part-edge-end : tie.Need-slice_bounds-edge-end
 part-edge-end c = omega arith
 
 edge-requires : tie.Need-edge-requires
 edge-requires c κs = omega arith
 
-sub-copy : tie.Need-overflow-sub-copy
+sub-copy : tie.Need-slice_bounds-copy-count
 sub-copy c = omega arith
 
-part-copy-start : tie.Need-slice-bounds-copy-start
+part-copy-start : tie.Need-slice_bounds-copy-start
 part-copy-start c = omega arith
 
-part-copy-end : tie.Need-slice-bounds-copy-end
+part-copy-end : tie.Need-slice_bounds-copy-end
 part-copy-end c = omega arith
 
 copy-requires : tie.Need-copy-requires
 copy-requires c κs = omega arith
 
-mul-edge : tie.Need-overflow-mul-edge
+mul-edge : tie.Need-offset_bounds-out-end
 mul-edge c = omega arith
 
-sub-edge-2 : tie.Need-overflow-sub-edge-2
+sub-edge-2 : tie.Need-slice_bounds-edge-count-2
 sub-edge-2 c = omega arith
 
-part-edge-start-2 : tie.Need-slice-bounds-edge-start-2
+part-edge-start-2 : tie.Need-slice_bounds-edge-start-2
 part-edge-start-2 c = omega arith
 
-part-edge-end-2 : tie.Need-slice-bounds-edge-end-2
+part-edge-end-2 : tie.Need-slice_bounds-edge-end-2
 part-edge-end-2 c = omega arith
 
 edge-requires-2 : tie.Need-edge-requires-2
 edge-requires-2 c κs = omega arith
 
-same_length : tie.Need-same-length
+same_length : tie.Need-shape_of-out
 same_length c = omega arith
 
 returns : tie.Need-returns
@@ -97,10 +97,10 @@ returns c =
     let k = e₂.before.before.before.before in
     let e₁ = k.before.before.before.before in
     let s = e₁.before.before.before.before in
-    whole s.args.row.now s.args.out.now (omega arith) (omega arith) (omega arith) e₁.edge.ensures k.copy.ensures e₂.edge2.ensures
+    whole s.args.row.now s.args.out.now (omega arith) (omega arith) (omega arith) e₁.edge.ensures k.copy.ensures e₂.edge-2.ensures
 
-pub extend-spec : {M : Type 1} → statement M
-extend-spec =
+pub extend_spec : {M : Type 1} → statement M
+extend_spec =
     tie.close
     (tie.spec
     add-end

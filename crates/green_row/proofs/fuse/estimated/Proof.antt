@@ -12,65 +12,65 @@ use Rattle.green_row.proofs.ReadLaws.{read_at}
 use Rattle.green_row.proofs.fuse.estimated.Statement.{statement}
 use Rattle.green_row.proofs.fuse.estimated.Tie as tie
 
-abbrev invariant-loop : tie.invariant-loop
+abbrev invariant-loop : tie.invariant-loop-k
 invariant-loop x r out₀ k₀ out k = (k ≤ length out₀) × Filled (λ i. clamp (pos (16 * get_or x (2 * i) 0) +ℤ get_or r i (pos 0))) k out₀ out
 
-abbrev decreases-loop : tie.decreases-loop
+abbrev decreases-loop : tie.decreases-loop-k
 decreases-loop x r out₀ k₀ out k = length out₀ - k
 
-loop-holds : tie.Need-loop-init invariant-loop decreases-loop
+loop-holds : tie.Need-loop-k-init invariant-loop decreases-loop
 loop-holds c = (omega arith, (table_none _ _, refl))
 
-mul-green : tie.Need-overflow-mul-green invariant-loop decreases-loop
+mul-green : tie.Need-overflow_mul-k invariant-loop decreases-loop
 mul-green c = omega arith
 
-mul-green-2 : tie.Need-overflow-mul-green-2 invariant-loop decreases-loop
+mul-green-2 : tie.Need-offset_bounds-x-k invariant-loop decreases-loop
 mul-green-2 c = omega arith
 
-shared-slice-read-green : tie.Need-shared-slice-read-green invariant-loop decreases-loop
+shared-slice-read-green : tie.Need-bounds-x-k invariant-loop decreases-loop
 shared-slice-read-green c = omega arith
 
-mul-green-3 : tie.Need-overflow-mul-green-3 invariant-loop decreases-loop
+mul-green-3 : tie.Need-offset_bounds-r-k invariant-loop decreases-loop
 mul-green-3 c = omega arith
 
-shared-slice-copy-out-green : tie.Need-shared-slice-copy-out-green invariant-loop decreases-loop
+shared-slice-copy-out-green : tie.Need-bounds-r-k invariant-loop decreases-loop
 shared-slice-copy-out-green c = omega arith
 
 green-requires : tie.Need-green-requires invariant-loop decreases-loop
 green-requires c κs =
     let k = c.before.before.before in
     let q = k.before.before.before in
-    le_trans (le_of_eq (ap nat_abs (read_at w32 q.args.r.now k.loop.k c.green-arg.given))) (q.requires.2 k.loop.k)
+    le_trans (le_of_eq (ap nat_abs (read_at w32 q.args.r.now k.loop-k.k c.green-arg-1.given))) (q.requires.2 k.loop-k.k)
 
-mul-out : tie.Need-overflow-mul-out invariant-loop decreases-loop
+mul-out : tie.Need-offset_bounds-out-k invariant-loop decreases-loop
 mul-out c = omega arith
 
-slice-write-out : tie.Need-slice-write-out invariant-loop decreases-loop
+slice-write-out : tie.Need-bounds-out-k invariant-loop decreases-loop
 slice-write-out c = omega arith
 
-add-k : tie.Need-overflow-add-k invariant-loop decreases-loop
+add-k : tie.Need-overflow_add-k invariant-loop decreases-loop
 add-k c = omega arith
 
-loop-less : tie.Need-loop-smaller invariant-loop decreases-loop
+loop-less : tie.Need-loop-k-smaller invariant-loop decreases-loop
 loop-less c = omega arith
 
-loop-again : tie.Need-loop-preserved invariant-loop decreases-loop
+loop-again : tie.Need-loop-k-preserved invariant-loop decreases-loop
 loop-again c =
     let k = c.before.before.before.before in
     let a = k.before.before.before.args in
-    let l = k.loop in
-    (omega arith, table-turn _ l.k _ (omega arith) l.invariant.1 (c.green.ensures ∙ ap (λ z. clamp (pos (16 * get_or a.x.now (2 * l.k) 0) +ℤ z)) (read_at w32 a.r.now l.k c.before.green-arg.given)))
+    let l = k.loop-k in
+    (omega arith, table-turn _ l.k _ (omega arith) l.invariant.1 (c.green.ensures ∙ ap (λ z. clamp (pos (16 * get_or a.x.now (2 * l.k) 0) +ℤ z)) (read_at w32 a.r.now l.k c.before.green-arg-1.given)))
 
-same_length : tie.Need-same-length invariant-loop decreases-loop
+same_length : tie.Need-shape_of-out invariant-loop decreases-loop
 same_length c = omega arith
 
 returns : tie.Need-returns invariant-loop decreases-loop
 returns c =
-    let l = c.before.loop in
+    let l = c.before.loop-k in
     l.invariant.1.0 ∙ table_done _ l.k _ _ l.invariant.0 (omega arith) refl
 
-pub estimated-spec : {M : Type 1} → statement M
-estimated-spec =
+pub estimated_spec : {M : Type 1} → statement M
+estimated_spec =
     tie.close
     (tie.spec
     invariant-loop

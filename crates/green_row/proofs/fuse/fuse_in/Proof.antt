@@ -29,8 +29,8 @@ fuse-requires c κs =
     (q.0, (q.1.0, (q.1.1.0, (r, t ∙ sym (ap (λ i. i + 1) r), f ∙ sym (ap (λ i. 4 * i) r), p ∙ sym r, ap₂ (λ (i j : ℕ). i + j) p o ∙ w))))
 
 -- what the parts ask is found
-pub fuse-in-spec : {M : Type 1} → statement M
-fuse-in-spec =
+pub fuse_in_spec : {M : Type 1} → statement M
+fuse_in_spec =
     tie.close
     (tie.spec
     (λ c. search rules)

@@ -31,10 +31,10 @@ fusion-requires c κs =
     let i = q.args.i in (
       (q.requires.0.6, q.requires.0.7),
       (
-        along q i (i + 1) c.before.before.before.direction-at.ensures,
-        along q (n + i) i c.before.before.direction-at2.ensures,
-        across q (2 * n + i) i c.before.direction-at3.ensures,
-        across q (3 * n + i) (2 * h + i) c.direction-at4.ensures,
+        along q i (i + 1) c.before.before.before.direction_at-east.ensures,
+        along q (n + i) i c.before.before.direction_at-west.ensures,
+        across q (2 * n + i) i c.before.direction_at-north.ensures,
+        across q (3 * n + i) (2 * h + i) c.direction_at-south.ensures,
       ),
     )
 
@@ -43,13 +43,13 @@ unfolding fused_by
 returns c =
     let d = c.before in
     let q = d.before.before.before.before.before.before in
-    read_result w32 _ c.fusion.type-inv
+    read_result w32 _ c.fusion.type_inv
     (c.fusion.ensures.0
-    ∙ (λ t. fused scale q.args.total (d.before.before.before.direction-at.ensures t) (d.before.before.direction-at2.ensures t ∷ d.before.direction-at3.ensures t ∷ d.direction-at4.ensures t ∷ [])))
+    ∙ (λ t. fused scale q.args.total (d.before.before.before.direction_at-east.ensures t) (d.before.before.direction_at-west.ensures t ∷ d.before.direction_at-north.ensures t ∷ d.direction_at-south.ensures t ∷ [])))
 
 -- where the sums are read is found to lie in the lists
-pub fused-at-spec : {M : Type 1} → statement M
-fused-at-spec =
+pub fused_at_spec : {M : Type 1} → statement M
+fused_at_spec =
     tie.close
     (tie.spec
     (λ c. search rules)

@@ -26,7 +26,7 @@ abbrev estimates : tie.After-observed → tie.After-estimated
 estimates c = c.before.before.before.before.before
 
 abbrev observes : tie.After-interleave → tie.After-observed
-observes c = c.before.before.before.before.before.before
+observes c = c.before.before.before.before
 
 returns : tie.Need-returns
 returns c =
@@ -35,13 +35,13 @@ returns c =
     let e = estimates o in
     let k = start e in
     let a = k.args in
-    let l : length a.out.now ≡ length a.x.now = k.pre.0.4 in
+    let l : length a.out.now ≡ length a.x.now = k.requires.0.4 in
     i.interleave.ensures ∙ ap (table _) l
-    ∙ green-from-halves a.x.now a.r.now a.odd k.pre.0.0 (length a.p.now) (length a.q.now) k.pre.1.0 k.pre.1.1 e.estimated.ensures o.observed.ensures
+    ∙ green-from-halves a.x.now a.r.now a.odd k.requires.0.0 (length a.p.now) (length a.q.now) k.requires.1.0 k.requires.1.1 e.estimated.ensures o.observed.ensures
 
 -- what the other calls and the parts ask is found
-pub green-row-spec : {M : Type 1} → statement M
-green-row-spec =
+pub green_row_spec : {M : Type 1} → statement M
+green_row_spec =
     tie.close
     (tie.spec
     (λ c. search rules)

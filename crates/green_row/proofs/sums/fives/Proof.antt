@@ -11,11 +11,11 @@ returns c =
     let e = c.before in
     let s = e.before.before.before.before.before.before.before in
     let a = s.args in
-    e.fives-across.ensures ∙ fives-apart a.weights a.d.now a.step a.at (length a.out.now) s.requires
+    e.fives_across.ensures ∙ fives-apart a.weights a.d.now a.step a.at (length a.out.now) s.requires
 
 -- where the five lists start is found to lie in d
-pub fives-spec : {M : Type 1} → statement M
-fives-spec =
+pub fives_spec : {M : Type 1} → statement M
+fives_spec =
     tie.close
     (tie.spec
     (λ c. search rules)
