@@ -71,7 +71,7 @@ module _ (c : tie.After-total) where
 
 fuse-row-requires : tie.Need-fuse_row-requires
 fuse-row-requires c κs =
-    let d = c.before.before.before in
+    let d = c.before in
     let h = narrow d in
     ((h.0, h.1, (t-fits d).0, (k d).requires.1.0.5, (f-fits d).0, h.2, h.3), ((t-fits d).1, (k d).requires.1.1.0.3, (f-fits d).1))
 
@@ -80,25 +80,25 @@ weighed c = c.before.before
 
 green-row-requires : tie.Need-green_row-requires
 green-row-requires c κs =
-    let r = c.before.before.before.before.before in
+    let r = c.before.before.before.before in
     let d = weighed r in
     let a = (k d).args in
-    let q = (k d).pre in
+    let q = (k d).requires in
     let b = q.1.1.0 in
     let l = q.1.1.1 in
     let w : length a.x.now ≤ 4096 = omega (arith, q) in
-    let p : length a.p-1.now ≡ (length a.x.now + 1 - a.odd) / 2 = l.3 ∙ l.0 in
+    let p : length a.p.now ≡ (length a.x.now + 1 - a.odd) / 2 = l.3 ∙ l.0 in
     let m = added-fit scale (ws d) a.s a.odd a.x.now a.dh.now a.dv.now a.gh.now a.tv.now q.0.0 (n d) (weighs d) (t-is d) (f-is d) r.fuse_row.ensures (some d).0 b.0 b.1 b.2 b.3 in
     ((q.0.0, q.0.1, q.0.2, w, q.0.3), (p, l.4, m.0 ∙ sym l.3, m.1))
 
 returns : tie.Need-returns
 returns c =
     let g = c.before.before.before.before.before.before in
-    let r = g.before.before.before.before.before.before in
+    let r = g.before.before.before.before.before in
     let d = weighed r in
     let a = (k d).args in
     g.green_row.ensures
-    ∙ row-from-sums scale (ws d) a.s a.odd a.x.now a.dh.now a.dv.now a.gh.now a.tv.now (k d).pre.0.0 (k d).pre.1.1.1.0 (weighs d) (t-is d) (f-is d) r.fuse_row.ensures
+    ∙ row-from-sums scale (ws d) a.s a.odd a.x.now a.dh.now a.dv.now a.gh.now a.tv.now (k d).requires.0.0 (k d).requires.1.1.1.0 (weighs d) (t-is d) (f-is d) r.fuse_row.ensures
 
 -- what the other calls ask is found
 pub fuse_spec : {M : Type 1} → statement M
