@@ -13,10 +13,10 @@ use Rattle.blend_rows.proofs.block.blend_block.Statement.{statement}
 use Rattle.blend_rows.proofs.block.blend_block.Tie as tie
 
 -- the entry, and after the readings were fetched
-abbrev start : tie.After-logistic → tie.Start
+abbrev start : tie.After-logistic-entries → tie.Start
 start c = c.before.before.before.before.before.before.before.before.before
 
-abbrev fetched : tie.After-e2 → tie.After-fetch-halves
+abbrev fetched : tie.After-e2 → tie.After-fetch_halves
 fetched c = c.before.before.before.before.before.before
 
 -- the places of the half rows, which are in the room
@@ -29,30 +29,30 @@ few s = (mul-le-mul_right _ (omega (arith, s.requires.0.2)), (s.requires.0.0 0 s
 room : (s : tie.Start) → (size s ≤ length s.args.e.now) × (size s ≤ length s.args.o.now)
 room s = (le_trans (few s).0 s.requires.1.0, le_trans (few s).0 s.requires.1.1)
 
-fetch-halves-requires : tie.Need-fetch-halves-requires
+fetch-halves-requires : tie.Need-fetch_halves-requires
 fetch-halves-requires c κs =
     let s = start c.before.before in
-    ((s.pre.0.0, s.pre.0.1, s.pre.0.2), (front (size s) s.args.e.now (room s).0, front (size s) s.args.o.now (room s).1))
+    ((s.requires.0.0, s.requires.0.1, s.requires.0.2), (front (size s) s.args.e.now (room s).0, front (size s) s.args.o.now (room s).1))
 
-blend-rows-requires : tie.Need-blend-rows-requires
+blend-rows-requires : tie.Need-blend_rows-requires
 blend-rows-requires c κs =
     let f = fetched c.before.before.before.before.before.before.before.before in
     let l = f.before.before.before in
     let s = start l in
     let a = s.args in
     let z = (s.pre.0.0 0 s.pre.0.1).frame in
-    let e = (front-again (size s) a.e.now (room s).0 f.fetch-halves.kept.1.1.1.1.1.0) in
-    let o = (front-again (size s) a.o.now (room s).1 f.fetch-halves.kept.1.1.1.1.1.1.0) in (
+    let e = (front-again (size s) a.e-1.now (room s).0 f.fetch_halves.auto.e) in
+    let o = (front-again (size s) a.o-1.now (room s).1 f.fetch_halves.auto.o) in (
       (
-        l.logistic.ensures,
-        omega (arith, l.before.starts-green.ensures, starts-below a.frame.layout a.v),
+        l.logistic-entries.ensures,
+        omega (arith, l.before.starts_green-odd.ensures, starts-below a.frame.layout a.v),
         omega (arith, z.wide),
         z.narrow,
         s.pre.0.2,
-        half-small a.frame a.start a.piece.now a.v a.b s.pre.0.3 0 (e ∙ f.fetch-halves.ensures.0),
-        half-small a.frame a.start a.piece.now a.v a.b s.pre.0.3 1 (o ∙ f.fetch-halves.ensures.1),
+        half-small a.frame a.start a.piece.now a.v a.b s.pre.0.3 0 (e ∙ f.fetch_halves.ensures.0),
+        half-small a.frame a.start a.piece.now a.v a.b s.pre.0.3 1 (o ∙ f.fetch_halves.ensures.1),
       ),
-      (ap length e ∙ f.fetch-halves.kept.1.1.1.1.1.0 ∙ front (size s) a.e.now (room s).0, ap length o ∙ f.fetch-halves.kept.1.1.1.1.1.1.0 ∙ front (size s) a.o.now (room s).1, s.pre.1.3, s.pre.1.2),
+      (ap length e ∙ f.fetch_halves.auto.e ∙ front (size s) a.e-1.now (room s).0, ap length o ∙ f.fetch_halves.auto.o ∙ front (size s) a.o-1.now (room s).1, s.pre.1.3, s.pre.1.2),
     )
 
 returns : tie.Need-returns
@@ -61,20 +61,20 @@ returns c =
     let l = f.before.before.before in
     let s = start l in
     let a = s.args in
-    let e = (front-again (size s) a.e.now (room s).0 f.fetch-halves.kept.1.1.1.1.1.0) in
-    let o = (front-again (size s) a.o.now (room s).1 f.fetch-halves.kept.1.1.1.1.1.1.0) in
-    c.before.before.before.before.before.before.before.before.before.blend-rows.ensures
-    ∙ block-blended a.frame a.start a.piece.now a.v a.b (e ∙ f.fetch-halves.ensures.0) (o ∙ f.fetch-halves.ensures.1) s.pre.0.0 l.before.starts-green.ensures
+    let e = (front-again (size s) a.e-1.now (room s).0 f.fetch_halves.auto.e) in
+    let o = (front-again (size s) a.o-1.now (room s).1 f.fetch_halves.auto.o) in
+    c.before.before.before.before.before.before.before.before.before.blend_rows.ensures
+    ∙ block-blended a.frame a.start a.piece.now a.v a.b (e ∙ f.fetch_halves.ensures.0) (o ∙ f.fetch_halves.ensures.1) s.pre.0.0 l.before.starts_green-odd.ensures
 
-part-blend-rows-end-2 : tie.Need-slice-bounds-blend-rows-end-2
+part-blend-rows-end-2 : tie.Need-slice_bounds-blend_rows-end-2
 part-blend-rows-end-2 c =
     let f = fetched c.before.before in
     let s = start f.before.before.before in
-    omega (arith, room s, lent_length (size s) s.args.o.now (room s).1 f.fetch-halves.last.1.1.1.1.1.1.0 f.fetch-halves.kept.1.1.1.1.1.1.0)
+    omega (arith, room s, lent_length (size s) s.args.o.now (room s).1 f.fetch_halves.new.o f.fetch_halves.auto.o)
 
 -- what the parts and the other calls ask is found
-pub blend-block-spec : {M : Type 1} → statement M
-blend-block-spec =
+pub blend_block_spec : {M : Type 1} → statement M
+blend_block_spec =
     tie.close
     (tie.spec
     (λ c. search rules)
@@ -92,7 +92,7 @@ blend-block-spec =
     fetch-halves-requires
     (λ c. search rules)
     (λ c. search rules)
-    (λ c. let f = fetched c in let s = start f.before.before.before in omega (arith, room s, lent_length (size s) s.args.e.now (room s).0 f.fetch-halves.last.1.1.1.1.1.0 f.fetch-halves.kept.1.1.1.1.1.0))
+    (λ c. let f = fetched c in let s = start f.before.before.before in omega (arith, room s, lent_length (size s) s.args.e.now (room s).0 f.fetch_halves.new.e f.fetch_halves.auto.e))
     (λ c. search rules)
     (λ c. search rules)
     part-blend-rows-end-2

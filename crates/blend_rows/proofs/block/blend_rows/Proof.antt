@@ -31,34 +31,34 @@ row_same w odd e o i k = let h = places w in rw (k, add-sub_cancel_left (i * h) 
 room-kept : {w y d p q w' y' d' p' q' : ℕ} → Room w y d p q → w' ≡ w → y' ≡ y → d' ≡ d → p' ≡ p → q' ≡ q → Room w' y' d' p' q'
 room-kept r a b c d e = rw (a, b, c, d, e) r
 
-abbrev invariant-loop : tie.invariant-loop
+abbrev invariant-loop : tie.invariant-loop-i
 invariant-loop entries e o w b odd y₀ d₀ p₀ q₀ out₀ h i₀ y d p q out i =
     (i ≤ b) × (Handed (block_row w odd e o) w (row-length w odd e o) i out₀ out) × (length y ≡ length y₀) × (length d ≡ length d₀) × (length p ≡ length p₀) × (length q ≡ length q₀)
 
-abbrev decreases-loop : tie.decreases-loop
+abbrev decreases-loop : tie.decreases-loop-i
 decreases-loop entries e o w b odd y₀ d₀ p₀ q₀ out₀ h i₀ y d p q out i = b - i
 
-abbrev start : tie.In-loop invariant-loop decreases-loop → tie.Start invariant-loop decreases-loop
+abbrev start : tie.In-loop-i invariant-loop decreases-loop → tie.Start invariant-loop decreases-loop
 start c = c.before.before.before.before.before.before.before.before
 
 -- row i lies in out, and its half rows, which are few, in e and o
-inside : (c : tie.In-loop invariant-loop decreases-loop) → let a = (start c).args in let i = c.before.loop.i in let h = places a.w in
+inside : (c : tie.In-loop-i invariant-loop decreases-loop) → let a = (start c).args in let i = c.before.loop-i.i in let h = places a.w in
     (i * a.w + a.w ≤ a.b * a.w) × (a.b * a.w ≤ 8 * a.w) × (i * h + h ≤ a.b * h) × (a.b * h ≤ 8 * h) × ((a.b + 4) * h ≡ a.b * h + 4 * h)
 inside c =
     let a = (start c).args in
     let h = places a.w in
-    (part-within a.w c.loop-test.true, mul-le-mul_right a.w (start c).requires.0.4, part-within h c.loop-test.true, mul-le-mul_right h (start c).requires.0.4, add-mul a.b 4 h)
+    (part-within a.w c.loop-i-test.true, mul-le-mul_right a.w (start c).requires.0.4, part-within h c.loop-i-test.true, mul-le-mul_right h (start c).requires.0.4, add-mul a.b 4 h)
 
 bit : (n : ℕ) → n % 2 < 2
 bit n = omega arith
 
-loop-holds : tie.Need-loop-init invariant-loop decreases-loop
+loop-holds : tie.Need-loop-i-init invariant-loop decreases-loop
 loop-holds c = let a = c.before.before.before.before.before.before.args in (omega arith, (joined-none _ _ (row-length a.w a.odd a.e.now a.o.now) _, refl), refl, refl, refl, refl)
 
-blend-row-from-requires : tie.Need-blend-row-from-requires invariant-loop decreases-loop
+blend-row-from-requires : tie.Need-blend_row_from-requires invariant-loop decreases-loop
 blend-row-from-requires c κs =
     let k = c.before.before.before.before.before.before.before in
-    let l = k.before.loop in
+    let l = k.before.loop-i in
     let v = start k in
     let a = v.args in
     let h = places a.w in
@@ -66,43 +66,43 @@ blend-row-from-requires c κs =
     let le = part_length (l.i * h) (5 * h) a.e.now (omega (arith, (inside k).2, (inside k).4)) in
     let lp = part_length (l.i * h) (5 * h) a.o.now (omega (arith, (inside k).2, (inside k).4)) in (
       (
-        v.pre.0.0,
+        v.requires.0.0,
         bit (a.odd + l.i),
         ap places (sym lo),
         le,
         lp,
-        all-part (λ n. n ≤ 4095) 0 (omega arith) (l.i * h) (l.i * h + 5 * h - l.i * h) a.e.now v.pre.0.5,
-        all-part (λ n. n ≤ 4095) 0 (omega arith) (l.i * h) (l.i * h + 5 * h - l.i * h) a.o.now v.pre.0.6,
+        all-part (λ n. n ≤ 4095) 0 (omega arith) (l.i * h) (l.i * h + 5 * h - l.i * h) a.e.now v.requires.0.5,
+        all-part (λ n. n ≤ 4095) 0 (omega arith) (l.i * h) (l.i * h + 5 * h - l.i * h) a.o.now v.requires.0.6,
       ),
-      (omega (arith, lo, v.pre.0.2), omega (arith, lo, v.pre.0.3), room-kept v.pre.1.3 lo l.invariant.2 l.invariant.3 l.invariant.4 l.invariant.5),
+      (omega (arith, lo, v.requires.0.2), omega (arith, lo, v.requires.0.3), room-kept v.requires.1.3 lo l.invariant.2 l.invariant.3 l.invariant.4 l.invariant.5),
     )
 
-loop-again : tie.Need-loop-preserved invariant-loop decreases-loop
+loop-again : tie.Need-loop-i-preserved invariant-loop decreases-loop
 loop-again c =
     let r = c.before.before.before.before.before.before.before.before.before in
     let k = r.before.before.before.before.before.before.before.before in
-    let l = k.before.loop in
+    let l = k.before.loop-i in
     let v = start k in
     let a = v.args in
-    let z = r.blend-row-from.auto.1.1.1.1.1 in (
+    (
       omega arith,
-      joined-turn _ _ (row-length a.w a.odd a.e.now a.o.now) l.i a.b a.out.now k.loop-test.true v.pre.1.2 l.invariant.1
-          (r.blend-row-from.ensures ∙ row_same a.w a.odd a.e.now a.o.now l.i (part_length (l.i * a.w) a.w l.out (omega (arith, (inside k).0, l.invariant.1.1)))),
-      z.0 ∙ l.invariant.2,
-      z.1.0 ∙ l.invariant.3,
-      z.1.1.0 ∙ l.invariant.4,
-      z.1.1.1.0 ∙ l.invariant.5,
+      joined-turn _ _ (row-length a.w a.odd a.e.now a.o.now) l.i a.b a.out.now k.loop-i-test.true v.requires.1.2 l.invariant.1
+          (r.blend_row_from.ensures ∙ row_same a.w a.odd a.e.now a.o.now l.i (part_length (l.i * a.w) a.w l.out (omega (arith, (inside k).0, l.invariant.1.1)))),
+      r.blend_row_from.auto.y ∙ l.invariant.2,
+      r.blend_row_from.auto.d ∙ l.invariant.3,
+      r.blend_row_from.auto.p ∙ l.invariant.4,
+      r.blend_row_from.auto.q ∙ l.invariant.5,
     )
 
 returns : tie.Need-returns invariant-loop decreases-loop
 returns c =
-    let l = c.before.loop in
+    let l = c.before.loop-i in
     let v = c.before.before.before.before.before.before.before.before in
     let a = v.args in
-    l.invariant.1.0 ∙ joined-done _ _ (row-length a.w a.odd a.e.now a.o.now) l.i a.b _ l.invariant.0 c.loop-test.false v.requires.1.2
+    l.invariant.1.0 ∙ joined-done _ _ (row-length a.w a.odd a.e.now a.o.now) l.i a.b _ l.invariant.0 c.loop-i-test.false v.requires.1.2
 
-pub blend-rows-spec : {M : Type 1} → statement M
-blend-rows-spec =
+pub blend_rows_spec : {M : Type 1} → statement M
+blend_rows_spec =
     tie.close
     (tie.spec
     invariant-loop

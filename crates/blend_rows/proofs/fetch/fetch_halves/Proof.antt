@@ -33,47 +33,47 @@ half-same w high start piece v r {n} e h side =
     ap (λ (i : ℕ). table (λ k. get_or row (mirror i (sub_ℕ (2 * k + side) 2)) 0) (places i)) (part_length (n * w) w piece h)
     ∙ ap (λ (l : List ℕ). table (λ k. get_or l (mirror w (sub_ℕ (2 * k + side) 2)) 0) (places w)) (row_is w (mirror high (sub_ℕ (v + r) 2) - start) piece e)
 
-abbrev invariant-loop : tie.invariant-loop
+abbrev invariant-loop : tie.invariant-loop-r
 invariant-loop start piece v b e₀ o₀ w high h rows r₀ e o r =
     (r ≤ b + 4) × (Handed (fetched w high start piece v 0) (places w) (half_length w high start piece v 0) r e₀ e) × (Handed (fetched w high start piece v 1) (places w) (half_length w high start piece v 1) r o₀ o)
 
-abbrev decreases-loop : tie.decreases-loop
+abbrev decreases-loop : tie.decreases-loop-r
 decreases-loop start piece v b e₀ o₀ w high h rows r₀ e o r = b + 4 - r
 
-abbrev start : tie.In-loop invariant-loop decreases-loop → tie.Start invariant-loop decreases-loop
+abbrev start : tie.In-loop-r invariant-loop decreases-loop → tie.Start invariant-loop decreases-loop
 start c = c.before.before.before.before.before
 
 -- the row that is read lies in the piece, and the half rows that are written in e and o
 reads : (c : tie.After-mirror invariant-loop decreases-loop) → let a = (start c.before).args in (c.mirror.result - a.start) * a.frame.width + a.frame.width ≤ length a.piece.now
 reads c =
     let q = start c.before in
-    rw c.mirror.ensures (rw (add-one, suc-mul) at (near-end q.args.frame q.args.start (length q.args.piece.now) q.args.v q.args.b q.pre.0.0 q.pre.0.1 _ c.before.loop-test.true))
+    rw c.mirror.ensures (rw (add-one, suc-mul) at (near-end q.args.frame q.args.start (length q.args.piece.now) q.args.v q.args.b q.requires.0.0 q.requires.0.1 _ c.before.loop-r-test.true))
 
-writes : (c : tie.In-loop invariant-loop decreases-loop) → let a = (start c).args in let h = places a.frame.width in (c.before.loop.r * h + h ≤ (a.b + 4) * h) × ((a.b + 4) * h ≤ 12 * h) × (a.frame.width ≤ 4096)
+writes : (c : tie.In-loop-r invariant-loop decreases-loop) → let a = (start c).args in let h = places a.frame.width in (c.before.loop-r.r * h + h ≤ (a.b + 4) * h) × ((a.b + 4) * h ≤ 12 * h) × (a.frame.width ≤ 4096)
 writes c =
     let q = start c in
     let h = places q.args.frame.width in
-    (part-within h c.loop-test.true, mul-le-mul_right h (omega arith), (q.pre.0.0 0 q.pre.0.1).frame.narrow)
+    (part-within h c.loop-r-test.true, mul-le-mul_right h (omega arith), (q.requires.0.0 0 q.requires.0.1).frame.narrow)
 
-add-h : tie.Need-overflow-add-h invariant-loop decreases-loop
+add-h : tie.Need-overflow_add-h invariant-loop decreases-loop
 add-h c = let q = c.before.before.before in omega (arith, (q.requires.0.0 0 q.requires.0.1).frame.narrow)
 
-add-h-2 : tie.Need-overflow-add-h-2 invariant-loop decreases-loop
+add-h-2 : tie.Need-overflow_add-h-2 invariant-loop decreases-loop
 add-h-2 c = let q = c.before.before.before in omega (arith, (q.requires.0.0 0 q.requires.0.1).frame.narrow)
 
-loop-holds : tie.Need-loop-init invariant-loop decreases-loop
+loop-holds : tie.Need-loop-r-init invariant-loop decreases-loop
 loop-holds c = (omega arith, (joined-none _ _ (half_length _ _ _ _ _ 0) _, refl), (joined-none _ _ (half_length _ _ _ _ _ 1) _, refl))
 
-add-mirror : tie.Need-overflow-add-mirror invariant-loop decreases-loop
+add-mirror : tie.Need-overflow_add-v invariant-loop decreases-loop
 add-mirror c =
     let q = start c in
-    let z = q.pre.0.0 0 q.pre.0.1 in
+    let z = q.requires.0.0 0 q.requires.0.1 in
     omega (arith, z.row, z.frame.low)
 
-sub_at : tie.Need-overflow-sub-at invariant-loop decreases-loop
+sub_at : tie.Need-overflow_sub-at invariant-loop decreases-loop
 sub_at c =
     let q = start c.before in
-    omega (arith, c.mirror.ensures, near-start q.args.frame q.args.start (length q.args.piece.now) q.args.v q.args.b q.pre.0.0 q.pre.0.1 _ c.before.loop-test.true)
+    omega (arith, c.mirror.ensures, near-start q.args.frame q.args.start (length q.args.piece.now) q.args.v q.args.b q.requires.0.0 q.requires.0.1 _ c.before.loop-r-test.true)
 
 halves-requires : tie.Need-halves-requires invariant-loop decreases-loop
 halves-requires c κs =
@@ -81,38 +81,38 @@ halves-requires c κs =
     let q = start k.before in
     let a = q.args in
     let h = places a.frame.width in
-    let l = k.before.before.loop in
+    let l = k.before.before.loop-r in
     let w = writes k.before in
     let g = part_length ((k.mirror.result - a.start) * a.frame.width) a.frame.width a.piece.now (reads k) in
     let i = part_length (l.r * h) h l.e (omega (arith, w.0)) in
     let j = part_length (l.r * h) h l.o (omega (arith, w.0)) in
-    let z = q.pre.0.0 0 q.pre.0.1 in
+    let z = q.requires.0.0 0 q.requires.0.1 in
     rw (g, i, j) (omega (arith, z.frame.wide), w.2, refl, refl)
 
-loop-again : tie.Need-loop-preserved invariant-loop decreases-loop
+loop-again : tie.Need-loop-r-preserved invariant-loop decreases-loop
 loop-again c =
     let g = c.before.before.before.before in
     let k = g.before.before.before.before in
     let a = (start k.before).args in
-    let l = k.before.before.loop in
+    let l = k.before.before.loop-r in
     let row = half-same a.frame.width a.frame.height a.start a.piece.now a.v l.r (ap (λ (m : ℕ). m - a.start) k.mirror.ensures) (reads k) in
     let long = half_length a.frame.width a.frame.height a.start a.piece.now a.v in (
       omega arith,
-      joined-turn _ _ (long 0) l.r (a.b + 4) a.e.now k.before.loop-test.true (start k.before).pre.1.0 l.invariant.1 (g.halves.ensures.0 ∙ row 0),
-      joined-turn _ _ (long 1) l.r (a.b + 4) a.o.now k.before.loop-test.true (start k.before).pre.1.1 l.invariant.2 (g.halves.ensures.1 ∙ row 1),
+      joined-turn _ _ (long 0) l.r (a.b + 4) a.e.now k.before.loop-r-test.true (start k.before).requires.1.0 l.invariant.1 (g.halves.ensures.0 ∙ row 0),
+      joined-turn _ _ (long 1) l.r (a.b + 4) a.o.now k.before.loop-r-test.true (start k.before).requires.1.1 l.invariant.2 (g.halves.ensures.1 ∙ row 1),
     )
 
 returns : tie.Need-returns invariant-loop decreases-loop
 returns c =
-    let l = c.before.loop in
+    let l = c.before.loop-r in
     let s = c.before.before.before.before.before in
     let a = s.args in (
-      l.invariant.1.0 ∙ joined-done _ _ (half_length a.frame.width a.frame.height a.start a.piece.now a.v 0) l.r (a.b + 4) _ l.invariant.0 c.loop-test.false s.requires.1.0,
-      l.invariant.2.0 ∙ joined-done _ _ (half_length a.frame.width a.frame.height a.start a.piece.now a.v 1) l.r (a.b + 4) _ l.invariant.0 c.loop-test.false s.requires.1.1,
+      l.invariant.1.0 ∙ joined-done _ _ (half_length a.frame.width a.frame.height a.start a.piece.now a.v 0) l.r (a.b + 4) _ l.invariant.0 c.loop-r-test.false s.requires.1.0,
+      l.invariant.2.0 ∙ joined-done _ _ (half_length a.frame.width a.frame.height a.start a.piece.now a.v 1) l.r (a.b + 4) _ l.invariant.0 c.loop-r-test.false s.requires.1.1,
     )
 
-pub fetch-halves-spec : {M : Type 1} → statement M
-fetch-halves-spec =
+pub fetch_halves_spec : {M : Type 1} → statement M
+fetch_halves_spec =
     tie.close
     (tie.spec
     invariant-loop

@@ -9,7 +9,7 @@ use Rattle.blend_rows.proofs.AxisLaws.{From, lines, axes-from}
 use Rattle.blend_rows.proofs.half.along_column.Statement.{statement}
 use Rattle.blend_rows.proofs.half.along_column.Tie as tie
 
-abbrev start : tie.After-variations-arg6 → tie.Start
+abbrev start : tie.After-variations-arg-6-1 → tie.Start
 start c = c.before.before.before.before.before.before.before.before
 
 -- what is read
@@ -32,7 +32,7 @@ variations-requires : tie.Need-variations-requires
 variations-requires c κs = let s = start c in lines (centre s) (above s) (below s) (first s) (last s)
 
 estimates-requires : tie.Need-estimates-requires
-estimates-requires c κs = let s = start c.before.before.before.before.before.before.before.before.before in let e = s.pre.4 in rw e (lines (centre s) (above s) (below s) (first s) (last s))
+estimates-requires c κs = let s = start c.before.before.before.before.before.before.before.before.before in let e = s.requires.4 in rw e (lines (centre s) (above s) (below s) (first s) (last s))
 
 returns : tie.Need-returns
 unfolding column_axis_in
@@ -40,12 +40,12 @@ returns c =
     let v = c.before.before.before.before.before.before.before.before.before.before in
     let s = start v.before in (
       v.variations.ensures ∙ axes-from (centre s) (above s) (below s) (first s) (last s) (λ a. a.variation) _ refl,
-      c.before.estimates.ensures ∙ axes-from (centre s) (above s) (below s) (first s) (last s) (λ a. a.estimate) _ s.pre.4,
+      c.before.estimates.ensures ∙ axes-from (centre s) (above s) (below s) (first s) (last s) (λ a. a.estimate) _ s.requires.4,
     )
 
 -- what the parts and the other calls ask is found
-pub along-column-spec : {M : Type 1} → statement M
-along-column-spec =
+pub along_column_spec : {M : Type 1} → statement M
+along_column_spec =
     tie.close
     (tie.spec
     (λ c. search rules)

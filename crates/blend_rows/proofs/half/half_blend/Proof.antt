@@ -12,25 +12,25 @@ use Rattle.blend_rows.proofs.AxisLaws.{places-small, places-length, weighted-by}
 use Rattle.blend_rows.proofs.half.half_blend.Statement.{statement}
 use Rattle.blend_rows.proofs.half.half_blend.Tie as tie
 
-abbrev start : tie.After-row-places → tie.Start
+abbrev start : tie.After-row_places → tie.Start
 start c = c.before.before.before.before.before.before
 
-abbrev placed : tie.After-row-weights-arg2 → tie.After-row-places
+abbrev placed : tie.After-row-weights-arg2 → tie.After-row_places
 placed c = c.before.before.before.before
 
-abbrev weighed : tie.After-row-blend-arg2 → tie.After-row-weights
+abbrev weighed : tie.After-row-blend-arg2 → tie.After-row_weights
 weighed c = c.before.before.before.before
 
 again : {m n : ℕ} {vr vc : List ℕ} {xr xc : List ℤ} → m ≡ n → Axes n vr vc xr xc → Axes m vr vc xr xc
 again e z = rw e z
 
-row-weights-requires : tie.Need-row-weights-requires
+row-weights-requires : tie.Need-row_weights-requires
 row-weights-requires c κs =
     let r = placed c in
     let s = start r in
-    (s.pre.0, omega (arith, s.pre.2, r.row-places.kept.1.1.0), places-small s.args.vr.now s.args.vc.now (length s.args.p.now) r.row-places.ensures)
+    (s.pre.0, omega (arith, s.pre.2, r.row_places.auto.out), places-small s.args.vr.now s.args.vc.now (length s.args.p.now) r.row_places.ensures)
 
-row-blend-requires : tie.Need-row-blend-requires
+row-blend-requires : tie.Need-row_blend-requires
 row-blend-requires c κs =
     let w = weighed c in
     let r = placed w.before in
@@ -38,18 +38,18 @@ row-blend-requires c κs =
     let n = length s.args.p.now in
     let vr = s.args.vr.now in
     let vc = s.args.vc.now in
-    (again (places-length vr vc n r.row-places.ensures) s.pre.1, weighted-by vr vc n r.row-places.ensures s.pre.2 w.row-weights.ensures)
+    (again (places-length vr vc n r.row_places.ensures) s.pre.1, weighted-by vr vc n r.row_places.ensures s.pre.2 w.row_weights.ensures)
 
 returns : tie.Need-returns
 returns c =
     let b = c.before.before in
     let r = placed (weighed b.before).before in
     let s = start r in
-    b.row-blend.ensures ∙ ap (table _) (places-length s.args.vr.now s.args.vc.now (length s.args.p.now) r.row-places.ensures)
+    b.row_blend.ensures ∙ ap (table _) (places-length s.args.vr.now s.args.vc.now (length s.args.p.now) r.row_places.ensures)
 
 -- what the parts and the other calls ask is found
-pub half-blend-spec : {M : Type 1} → statement M
-half-blend-spec =
+pub half_blend_spec : {M : Type 1} → statement M
+half_blend_spec =
     tie.close
     (tie.spec
     (λ c κs. let z = c.before.before.before.before.before.requires.1 in (z.vr-long, z.vc-long))

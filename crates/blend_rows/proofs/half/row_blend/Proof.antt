@@ -16,34 +16,34 @@ use Rattle.blend_rows.proofs.half.row_blend.Tie as tie
 required : {w : ℕ} {r c a b : Axis} → r ≡ a → c ≡ b → w ≡ weight_at (place_of a.variation b.variation) → Fitting a b → (w ≡ weight_at (place_of r.variation c.variation)) × (Fitting r c)
 required p q h f = rw (p, q) (h, f)
 
-abbrev invariant-loop : tie.invariant-loop
+abbrev invariant-loop : tie.invariant-loop-k
 invariant-loop weights vr vc xr xc out₀ k₀ out k = (k ≤ length out₀) × Filled (λ i. blend (axis_of vr xr i) (axis_of vc xc i)) k out₀ out
 
-abbrev decreases-loop : tie.decreases-loop
+abbrev decreases-loop : tie.decreases-loop-k
 decreases-loop weights vr vc xr xc out₀ k₀ out k = length out₀ - k
 
-loop-holds : tie.Need-loop-init invariant-loop decreases-loop
+loop-holds : tie.Need-loop-k-init invariant-loop decreases-loop
 loop-holds c = (omega arith, (table_none _ _, refl))
 
 blend-requires : tie.Need-blend-requires invariant-loop decreases-loop
 blend-requires c κs =
     let l = c.before.before.before.before in
     let s = l.before.before.before.before.before in
-    let k = l.loop.k in
-    required c.before.axis-at.ensures c.axis-at2.ensures (s.requires.1.weighted k (omega arith)) (s.requires.0.fitting k (omega arith))
+    let k = l.loop-k.k in
+    required c.before.axis_at.ensures c.axis_at-in-loop-k.ensures (s.requires.1.weighted k (omega arith)) (s.requires.0.fitting k (omega arith))
 
-loop-again : tie.Need-loop-preserved invariant-loop decreases-loop
+loop-again : tie.Need-loop-k-preserved invariant-loop decreases-loop
 loop-again c =
-    let l = c.before.before.before.before.before.loop in
-    (omega arith, table-turn _ l.k _ (omega arith) l.invariant.1 (c.blend.ensures ∙ ap₂ blend c.before.before.axis-at.ensures c.before.axis-at2.ensures))
+    let l = c.before.before.before.before.before.loop-k in
+    (omega arith, table-turn _ l.k _ (omega arith) l.invariant.1 (c.blend.ensures ∙ ap₂ blend c.before.before.axis_at.ensures c.before.axis_at-in-loop-k.ensures))
 
 returns : tie.Need-returns invariant-loop decreases-loop
 returns c =
-    let l = c.before.loop in
+    let l = c.before.loop-k in
     l.invariant.1.0 ∙ table_done _ l.k _ _ l.invariant.0 (omega arith) refl
 
-pub row-blend-spec : {M : Type 1} → statement M
-row-blend-spec =
+pub row_blend_spec : {M : Type 1} → statement M
+row_blend_spec =
     tie.close
     (tie.spec
     invariant-loop

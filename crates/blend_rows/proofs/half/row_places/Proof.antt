@@ -8,27 +8,27 @@ use Rattle.blend.specs.Machine.{place_of}
 use Rattle.blend_rows.proofs.half.row_places.Statement.{statement}
 use Rattle.blend_rows.proofs.half.row_places.Tie as tie
 
-abbrev invariant-loop : tie.invariant-loop
+abbrev invariant-loop : tie.invariant-loop-k
 invariant-loop row column out₀ k₀ out k = (k ≤ length out₀) × Filled (λ i. place_of (get_or row i 0) (get_or column i 0)) k out₀ out
 
-abbrev decreases-loop : tie.decreases-loop
+abbrev decreases-loop : tie.decreases-loop-k
 decreases-loop row column out₀ k₀ out k = length out₀ - k
 
-loop-holds : tie.Need-loop-init invariant-loop decreases-loop
+loop-holds : tie.Need-loop-k-init invariant-loop decreases-loop
 loop-holds c = (omega arith, (table_none _ _, refl))
 
-loop-again : tie.Need-loop-preserved invariant-loop decreases-loop
+loop-again : tie.Need-loop-k-preserved invariant-loop decreases-loop
 loop-again c =
-    let l = c.before.before.before.before.loop in
+    let l = c.before.before.before.before.loop-k in
     (omega arith, table-turn _ l.k _ (omega arith) l.invariant.1 c.place.ensures)
 
 returns : tie.Need-returns invariant-loop decreases-loop
 returns c =
-    let l = c.before.loop in
+    let l = c.before.loop-k in
     l.invariant.1.0 ∙ table_done _ l.k _ _ l.invariant.0 (omega arith) refl
 
-pub row-places-spec : {M : Type 1} → statement M
-row-places-spec =
+pub row_places_spec : {M : Type 1} → statement M
+row_places_spec =
     tie.close
     (tie.spec
     invariant-loop

@@ -15,17 +15,17 @@ use Rattle.blend_rows.proofs.row.blend_row.Statement.{statement}
 use Rattle.blend_rows.proofs.row.blend_row.Tie as tie
 
 -- the entry, and after the first two calls
-abbrev start : tie.After-half-greens → tie.Start
+abbrev start : tie.After-half_greens → tie.Start
 start c = c.before.before.before.before.before.before.before.before.before.before.before
 
-abbrev greens : tie.After-scaled-arg2 → tie.After-half-greens
+abbrev greens : tie.After-scaled-arg-2-1 → tie.After-half_greens
 greens c = c.before.before.before.before.before.before.before.before.before
 
 -- how many red and blue pixels the row has
 abbrev n : tie.Start → ℕ
 n s = (length s.args.out.now + 1 - s.args.side) / 2
 
-half-greens-requires : tie.Need-half-greens-requires
+half-greens-requires : tie.Need-half_greens-requires
 half-greens-requires c κs =
     let s = c.before.before.before.before.before.before.before.before.before.before in
     let a = s.args in
@@ -41,14 +41,14 @@ scaled-requires c κs =
     let g = greens c in
     let s = start g in
     let b = s.args.beside.now in
-    (omega (arith, s.pre.0, s.pre.0.3.one, s.pre.1, g.half-greens.kept.1.1.1.1.1.1.1.1.0), all-part (λ i. i ≤ 4095) 0 (omega arith) 1 (length b - 1) b s.pre.0.3.beside-small)
+    (omega (arith, s.requires.0, s.requires.0.3.one, s.requires.1, g.half_greens.auto.q), all-part (λ i. i ≤ 4095) 0 (omega arith) 1 (length b - 1) b s.requires.0.3.beside-small)
 
 interleave-requires : tie.Need-interleave-requires
 interleave-requires c κs =
     let q = c.before.before.before.before.before.before.before in
     let g = greens q.before in
     let s = start g in
-    (s.pre.0.1, omega (arith, s.pre, q.scaled.auto.1.0, g.half-greens.kept.1.1.1.1.1.1.1.0, g.half-greens.kept.1.1.1.1.1.1.1.1.0), omega (arith, s.pre, g.half-greens.kept.1.1.1.1.1.1.1.0))
+    (s.pre.0.1, omega (arith, s.pre, q.scaled.auto.out, g.half_greens.auto.p, g.half_greens.auto.q), omega (arith, s.pre, g.half_greens.auto.p))
 
 returns : tie.Need-returns
 returns c =
@@ -56,21 +56,21 @@ returns c =
     let g = greens q.before in
     let s = start g in
     let a = s.args in
-    let w = length a.out.now in
+    let w = length a.out-1.now in
     let own = a.own.now in
     let beside = a.beside.now in
     let r = s.pre.1.2 in
-    let m = g.half-greens.last.1.1.1.1.1.1.1.1.0 in
-    let l = lent_length (n s) a.q.now (omega (arith, s.pre.0.1, r.for-other-half)) m g.half-greens.kept.1.1.1.1.1.1.1.1.0 in
+    let m = g.half_greens.new.q in
+    let l = lent_length (n s) a.q-1.now (omega (arith, s.pre.0.1, r.for-other-half)) m g.half_greens.auto.q in
     c.before.before.interleave.ensures
     ∙ ap₂ (λ p q. table (interleaved a.side p q) w)
-    (front-table (blend_in a.h a.side own beside) (blend_in a.h a.side own beside) (n s) a.p.now (omega (arith, r.for-half)) g.half-greens.ensures (λ k _. refl))
-    (front-table _ (λ k. 16 * get_or beside (1 + k) 0) (w - n s) (m ++ drop (n s - 0) a.q.now) (omega (arith, s.pre.0.1, r.for-other-half, l)) q.scaled.ensures
+    (front-table (blend_in a.h a.side own beside) (blend_in a.h a.side own beside) (n s) a.p-1.now (omega (arith, r.for-half)) g.half_greens.ensures (λ k _. refl))
+    (front-table _ (λ k. 16 * get_or beside (1 + k) 0) (w - n s) (m ++ drop (n s - 0) a.q-1.now) (omega (arith, s.pre.0.1, r.for-other-half, l)) q.scaled.ensures
     (λ k l. ap (λ i. 16 * i) (get_or-from 1 beside k (1 + k) 0 (omega (arith, s.pre, s.pre.0.3.one)) refl)))
 
 -- what the parts and the other calls ask is found
-pub blend-row-spec : {M : Type 1} → statement M
-blend-row-spec =
+pub blend_row_spec : {M : Type 1} → statement M
+blend_row_spec =
     tie.close
     (tie.spec
     (λ c. search rules)
@@ -99,14 +99,14 @@ blend-row-spec =
     scaled-requires
     (λ c. search rules)
     (λ c. search rules)
-    (λ c. let g = greens c.before.before.before.before in omega (arith, (start g).pre.1, g.half-greens.kept.1.1.1.1.1.1.1.0))
+    (λ c. let g = greens c.before.before.before.before in omega (arith, (start g).pre.1, g.half_greens.auto.p))
     (λ c. search rules)
     (λ c. search rules)
-    (λ c. let q = c.before.before.before.before.before in let g = greens q.before in omega (arith, (start g).pre, q.scaled.auto.1.0, g.half-greens.kept.1.1.1.1.1.1.1.1.0))
+    (λ c. let q = c.before.before.before.before.before in let g = greens q.before in omega (arith, (start g).pre, q.scaled.auto.out, g.half_greens.auto.q))
     interleave-requires
     (λ c. search rules)
     (λ c. search rules)
     (λ c. search rules)
-    (λ c. let q = c.before.before.before.before.before.before.before.before.before.before in let g = greens q.before in omega (arith, (start g).pre, q.scaled.auto.1.0, g.half-greens.kept.1.1.1.1.1.1.1.1.0))
+    (λ c. let q = c.before.before.before.before.before.before.before.before.before.before in let g = greens q.before in omega (arith, (start g).pre, q.scaled.auto.out, g.half_greens.auto.q))
     (λ c. search rules)
     returns)

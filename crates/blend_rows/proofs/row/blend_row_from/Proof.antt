@@ -12,7 +12,7 @@ use Rattle.blend_rows.specs.BlendIn.{blend_row_in}
 use Rattle.blend_rows.proofs.row.blend_row_from.Statement.{statement}
 use Rattle.blend_rows.proofs.row.blend_row_from.Tie as tie
 
-blend-row-requires : tie.Need-blend-row-requires
+blend-row-requires : tie.Need-blend_row-requires
 blend-row-requires c κs =
     let s = c.before.before.before.before.before.before.before.before.before.before.before.before.before in
     let a = s.args in (
@@ -30,14 +30,14 @@ blend-row-requires c κs =
       s.requires.1,
     )
 
-returns : tie.Need-returns
+returns : tie.Need-returns-then-side-eq0
 returns c =
     let b = c.before.before.before.before.before.before.before.before.before in
     let s = b.before.before.before.before.before.before.before.before.before.before.before.before.before.before in
     let a = s.args in
-    rw (eq-eqb a.side 0 (omega arith)) (b.blend-row.ensures ∙ ap (λ k. blend_row_in (length a.out.now) a.h a.side a.e.now (take k (drop (2 * a.h) a.o.now))) (add-sub_cancel_left (2 * a.h) a.h))
+    rw (eq-eqb a.side 0 (omega arith)) (b.blend_row.ensures ∙ ap (λ k. blend_row_in (length a.out.now) a.h a.side a.e.now (take k (drop (2 * a.h) a.o.now))) (add-sub_cancel_left (2 * a.h) a.h))
 
-blend-row-requires-2 : tie.Need-blend-row-requires-2
+blend-row-requires-2 : tie.Need-blend_row-requires-2
 blend-row-requires-2 c κs =
     let s = c.before.before.before.before.before.before.before.before.before.before.before.before.before in
     let a = s.args in (
@@ -55,16 +55,16 @@ blend-row-requires-2 c κs =
       s.requires.1,
     )
 
-returns-2 : tie.Need-returns-2
+returns-2 : tie.Need-returns
 returns-2 c =
     let b = c.before.before.before.before.before.before.before.before.before in
     let s = b.before.before.before.before.before.before.before.before.before.before.before.before.before.before in
     let a = s.args in
-    rw (ne_eqb a.side 0 (omega arith)) (b.blend-row2.ensures ∙ ap (λ k. blend_row_in (length a.out.now) a.h a.side a.o.now (take k (drop (2 * a.h) a.e.now))) (add-sub_cancel_left (2 * a.h) a.h))
+    rw (ne_eqb a.side 0 (omega arith)) (b.blend_row-2.ensures ∙ ap (λ k. blend_row_in (length a.out.now) a.h a.side a.o.now (take k (drop (2 * a.h) a.e.now))) (add-sub_cancel_left (2 * a.h) a.h))
 
 -- what the parts and the other calls ask is found
-pub blend-row-from-spec : {M : Type 1} → statement M
-blend-row-from-spec =
+pub blend_row_from_spec : {M : Type 1} → statement M
+blend_row_from_spec =
     tie.close
     (tie.spec
     (λ c. search rules)

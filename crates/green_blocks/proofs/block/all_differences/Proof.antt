@@ -9,46 +9,46 @@ use Rattle.green_row.specs.AlongAxis.{difference_in}
 use Rattle.green_blocks.proofs.block.all_differences.Statement.{statement}
 use Rattle.green_blocks.proofs.block.all_differences.Tie as tie
 
-mul_at : tie.Need-overflow-mul-at
+mul_at : tie.Need-overflow_mul-at
 mul_at c = omega arith
 
-sub_at : tie.Need-overflow-sub-at
+sub_at : tie.Need-overflow_sub-at
 sub_at c = omega arith
 
-mul-end : tie.Need-overflow-mul-end
+mul-end : tie.Need-overflow_mul-end
 mul-end c = omega arith
 
-add-end : tie.Need-overflow-add-end
+add-end : tie.Need-overflow_add-end
 add-end c = omega arith
 
-add-end-2 : tie.Need-overflow-add-end-2
+add-end-2 : tie.Need-overflow_add-end-2
 add-end-2 c = omega arith
 
-mul-dh-len : tie.Need-overflow-mul-dh-len
+mul-dh-len : tie.Need-overflow_mul-dh_len
 mul-dh-len c = omega arith
 
-add-dh-len : tie.Need-overflow-add-dh-len
+add-dh-len : tie.Need-overflow_add-dh_len
 add-dh-len c = omega arith
 
-mul-differences : tie.Need-overflow-mul-differences
+mul-differences : tie.Need-offset_bounds-x-at
 mul-differences c = omega arith
 
-sub-differences : tie.Need-overflow-sub-differences
+sub-differences : tie.Need-slice_bounds-differences-count
 sub-differences c = omega arith
 
-part-differences-start : tie.Need-slice-bounds-differences-start
+part-differences-start : tie.Need-slice_bounds-differences-start
 part-differences-start c = omega arith
 
-part-differences-end : tie.Need-slice-bounds-differences-end
+part-differences-end : tie.Need-slice_bounds-differences-end
 part-differences-end c = omega arith
 
-sub-differences-2 : tie.Need-overflow-sub-differences-2
+sub-differences-2 : tie.Need-slice_bounds-differences-count-2
 sub-differences-2 c = omega arith
 
-part-differences-start-2 : tie.Need-slice-bounds-differences-start-2
+part-differences-start-2 : tie.Need-slice_bounds-differences-start-2
 part-differences-start-2 c = omega arith
 
-part-differences-end-2 : tie.Need-slice-bounds-differences-end-2
+part-differences-end-2 : tie.Need-slice_bounds-differences-end-2
 part-differences-end-2 c = omega arith
 
 differences-requires : tie.Need-differences-requires
@@ -56,22 +56,22 @@ differences-requires c κs =
     let q = c.before.before.before in
     (omega arith, all-part (λ n. n ≤ 4095) 0 (omega arith) (5 * q.args.s - 2) (q.args.m + 7 * q.args.s + 2 - (5 * q.args.s - 2)) q.args.x.now q.requires.5)
 
-sub-differences-3 : tie.Need-overflow-sub-differences-3
+sub-differences-3 : tie.Need-slice_bounds-differences-count-3
 sub-differences-3 c = omega arith
 
-mul-differences-2 : tie.Need-overflow-mul-differences-2
+mul-differences-2 : tie.Need-offset_bounds-d-dh_len
 mul-differences-2 c = omega arith
 
-part-differences-start-3 : tie.Need-slice-bounds-differences-start-3
+part-differences-start-3 : tie.Need-slice_bounds-differences-start-3
 part-differences-start-3 c = omega arith
 
-part-differences-end-3 : tie.Need-slice-bounds-differences-end-3
+part-differences-end-3 : tie.Need-slice_bounds-differences-end-3
 part-differences-end-3 c = omega arith
 
 differences-requires-2 : tie.Need-differences-requires-2
 differences-requires-2 c κs = let q = c.before.before.before.before.before.before in (omega arith, q.requires.5)
 
-same_length : tie.Need-same-length
+same_length : tie.Need-shape_of-d
 same_length c = omega arith
 
 returns : tie.Need-returns
@@ -80,10 +80,10 @@ returns c =
     let e₁ = e₂.before.before.before in
     let a = e₁.before.before.before.before.args in
     let k : a.m + 7 * a.s + 2 - (5 * a.s - 2) ≡ a.m + 2 * a.s + 4 = omega arith in
-    two-tables (a.m + 2 * a.s) (a.m + 8 * a.s) _ (ap (λ n. difference_in 1 (part (5 * a.s - 2) n a.x.now)) k) refl (omega arith) (omega arith) e₁.differences.ensures e₂.differences2.ensures
+    two-tables (a.m + 2 * a.s) (a.m + 8 * a.s) _ (ap (λ n. difference_in 1 (part (5 * a.s - 2) n a.x.now)) k) refl (omega arith) (omega arith) e₁.differences.ensures e₂.differences-2.ensures
 
-pub all-differences-spec : {M : Type 1} → statement M
-all-differences-spec =
+pub all_differences_spec : {M : Type 1} → statement M
+all_differences_spec =
     tie.close
     (tie.spec
     mul_at

@@ -38,178 +38,178 @@ row_same smoothing x dh dv gh tv w odd i e =
     let h = (w + 1) / 2 in
     rw (e, row_is w i x refl, add-sub_cancel_left (i * s) (3 * s), add-sub_cancel_left (i * s) (9 * s), add-sub_cancel_left (i * s) (3 * s - 4), add-sub_cancel_left (i * h) (3 * h))
 
-abbrev invariant-loop : tie.invariant-loop
+abbrev invariant-loop : tie.invariant-loop-i
 invariant-loop smoothing x w b odd dh dv gh tv t₀ f₀ r₀ p₀ q₀ out₀ s h i₀ t f r p q out i =
     (i ≤ b) × (Handed (rows smoothing x w odd dh dv gh tv) w (row-length smoothing x w odd dh dv gh tv) i out₀ out)
     × (length t ≡ length t₀) × (length f ≡ length f₀) × (length r ≡ length r₀) × (length p ≡ length p₀) × (length q ≡ length q₀)
 
-abbrev decreases-loop : tie.decreases-loop
+abbrev decreases-loop : tie.decreases-loop-i
 decreases-loop smoothing x w b odd dh dv gh tv t₀ f₀ r₀ p₀ q₀ out₀ s h i₀ t f r p q out i = b - i
 
-loop-holds : tie.Need-loop-init invariant-loop decreases-loop
+loop-holds : tie.Need-loop-i-init invariant-loop decreases-loop
 loop-holds c = let a = c.before.before.before.before.before.before.before.args in (omega arith, (joined-none _ _ (row-length a.smoothing _ _ _ _ _ _ _) _, refl), refl, refl, refl, refl, refl)
 
 -- the entry, and the loop's test
-abbrev start : tie.In-loop invariant-loop decreases-loop → tie.Start invariant-loop decreases-loop
+abbrev start : tie.In-loop-i invariant-loop decreases-loop → tie.Start invariant-loop decreases-loop
 start c = c.before.before.before.before.before.before.before.before.before
 
-abbrev test : tie.After-fuse-in-arg11 invariant-loop decreases-loop → tie.In-loop invariant-loop decreases-loop
+abbrev test : tie.After-fuse_in-arg-in-loop-i-10-1 invariant-loop decreases-loop → tie.In-loop-i invariant-loop decreases-loop
 test c = c.before.before.before.before.before.before.before.before.before.before.before
 
 -- row i lies in x and in out, and its places, which are few, in the other buffers
-inside : (c : tie.In-loop invariant-loop decreases-loop) → let a = (start c).args in let i = c.before.loop.i in let s = a.w + 14 in let h = (a.w + 1) / 2 in
+inside : (c : tie.In-loop-i invariant-loop decreases-loop) → let a = (start c).args in let i = c.before.loop-i.i in let s = a.w + 14 in let h = (a.w + 1) / 2 in
     (i * a.w + a.w ≤ a.b * a.w) × (i * s + s ≤ a.b * s) × (a.b * s ≤ 8 * s) × (i * h + h ≤ a.b * h) × (a.b * h ≤ 8 * h) × ((a.b + 2) * h ≡ a.b * h + 2 * h)
 inside c =
     let a = (start c).args in
     let s = a.w + 14 in
     let h = (a.w + 1) / 2 in
-    (part-within a.w c.loop-test.true, part-within s c.loop-test.true, mul-le-mul_right s (start c).requires.0.6, part-within h c.loop-test.true, mul-le-mul_right h (start c).requires.0.6, add-mul a.b 2 h)
+    (part-within a.w c.loop-i-test.true, part-within s c.loop-i-test.true, mul-le-mul_right s (start c).requires.0.6, part-within h c.loop-i-test.true, mul-le-mul_right h (start c).requires.0.6, add-mul a.b 2 h)
 
-add-s : tie.Need-overflow-add-s invariant-loop decreases-loop
+add-s : tie.Need-overflow_add-s invariant-loop decreases-loop
 add-s c = omega arith
 
-add-h : tie.Need-overflow-add-h invariant-loop decreases-loop
+add-h : tie.Need-overflow_add-h invariant-loop decreases-loop
 add-h c = omega arith
 
-add-side : tie.Need-overflow-add-side invariant-loop decreases-loop
+add-side : tie.Need-overflow_add-side invariant-loop decreases-loop
 add-side c = omega arith
 
 next : {i b : ℕ} → i < b → b ≤ 8 → Fits w64 (i + 1)
 next h l = omega arith
 
-mul_at : tie.Need-overflow-mul-at invariant-loop decreases-loop
+mul_at : tie.Need-overflow_mul-at invariant-loop decreases-loop
 mul_at c = omega (arith, inside c)
 
-add-end : tie.Need-overflow-add-end invariant-loop decreases-loop
+add-end : tie.Need-overflow_add-end invariant-loop decreases-loop
 add-end c = omega (arith, inside c)
 
-mul-o : tie.Need-overflow-mul-o invariant-loop decreases-loop
+mul-o : tie.Need-overflow_mul-o invariant-loop decreases-loop
 mul-o c = omega (arith, inside c)
 
-mul-dh-end : tie.Need-overflow-mul-dh-end invariant-loop decreases-loop
+mul-dh-end : tie.Need-overflow_mul-dh_end invariant-loop decreases-loop
 mul-dh-end c = omega (arith, inside c)
 
-add-dh-end : tie.Need-overflow-add-dh-end invariant-loop decreases-loop
+add-dh-end : tie.Need-overflow_add-dh_end invariant-loop decreases-loop
 add-dh-end c = omega (arith, inside c)
 
-mul-dv-end : tie.Need-overflow-mul-dv-end invariant-loop decreases-loop
+mul-dv-end : tie.Need-overflow_mul-dv_end invariant-loop decreases-loop
 mul-dv-end c = omega (arith, inside c)
 
-add-dv-end : tie.Need-overflow-add-dv-end invariant-loop decreases-loop
+add-dv-end : tie.Need-overflow_add-dv_end invariant-loop decreases-loop
 add-dv-end c = omega (arith, inside c)
 
-mul-gh-end : tie.Need-overflow-mul-gh-end invariant-loop decreases-loop
+mul-gh-end : tie.Need-overflow_mul-gh_end invariant-loop decreases-loop
 mul-gh-end c = omega (arith, inside c)
 
-sub-gh-end : tie.Need-overflow-sub-gh-end invariant-loop decreases-loop
+sub-gh-end : tie.Need-overflow_sub-gh_end invariant-loop decreases-loop
 sub-gh-end c = omega arith
 
-add-gh-end : tie.Need-overflow-add-gh-end invariant-loop decreases-loop
+add-gh-end : tie.Need-overflow_add-gh_end invariant-loop decreases-loop
 add-gh-end c = omega (arith, inside c)
 
-mul-tv-at : tie.Need-overflow-mul-tv-at invariant-loop decreases-loop
+mul-tv-at : tie.Need-overflow_mul-tv_at invariant-loop decreases-loop
 mul-tv-at c = omega (arith, inside c)
 
-mul-tv-end : tie.Need-overflow-mul-tv-end invariant-loop decreases-loop
+mul-tv-end : tie.Need-overflow_mul-tv_end invariant-loop decreases-loop
 mul-tv-end c = omega (arith, inside c)
 
-add-tv-end : tie.Need-overflow-add-tv-end invariant-loop decreases-loop
+add-tv-end : tie.Need-overflow_add-tv_end invariant-loop decreases-loop
 add-tv-end c = omega (arith, inside c)
 
-mul-fuse-in : tie.Need-overflow-mul-fuse-in invariant-loop decreases-loop
+mul-fuse-in : tie.Need-offset_bounds-x-at invariant-loop decreases-loop
 mul-fuse-in c = omega (arith, inside c)
 
-sub-fuse-in : tie.Need-overflow-sub-fuse-in invariant-loop decreases-loop
+sub-fuse-in : tie.Need-slice_bounds-fuse_in-count invariant-loop decreases-loop
 sub-fuse-in c = omega arith
 
-part-fuse-in-start : tie.Need-slice-bounds-fuse-in-start invariant-loop decreases-loop
+part-fuse-in-start : tie.Need-slice_bounds-fuse_in-start invariant-loop decreases-loop
 part-fuse-in-start c = omega arith
 
-part-fuse-in-end : tie.Need-slice-bounds-fuse-in-end invariant-loop decreases-loop
+part-fuse-in-end : tie.Need-slice_bounds-fuse_in-end invariant-loop decreases-loop
 part-fuse-in-end c = omega (arith, inside c)
 
-mul-fuse-in-2 : tie.Need-overflow-mul-fuse-in-2 invariant-loop decreases-loop
+mul-fuse-in-2 : tie.Need-offset_bounds-dh-o invariant-loop decreases-loop
 mul-fuse-in-2 c = omega (arith, inside c.before)
 
-sub-fuse-in-2 : tie.Need-overflow-sub-fuse-in-2 invariant-loop decreases-loop
+sub-fuse-in-2 : tie.Need-slice_bounds-fuse_in-count-in-loop-i invariant-loop decreases-loop
 sub-fuse-in-2 c = omega arith
 
-part-fuse-in-start-2 : tie.Need-slice-bounds-fuse-in-start-2 invariant-loop decreases-loop
+part-fuse-in-start-2 : tie.Need-slice_bounds-fuse_in-start-in-loop-i invariant-loop decreases-loop
 part-fuse-in-start-2 c = omega arith
 
-part-fuse-in-end-2 : tie.Need-slice-bounds-fuse-in-end-2 invariant-loop decreases-loop
+part-fuse-in-end-2 : tie.Need-slice_bounds-fuse_in-end-in-loop-i invariant-loop decreases-loop
 part-fuse-in-end-2 c = omega (arith, inside c.before)
 
-mul-fuse-in-3 : tie.Need-overflow-mul-fuse-in-3 invariant-loop decreases-loop
+mul-fuse-in-3 : tie.Need-offset_bounds-dv-o invariant-loop decreases-loop
 mul-fuse-in-3 c = omega (arith, inside c.before.before)
 
-sub-fuse-in-3 : tie.Need-overflow-sub-fuse-in-3 invariant-loop decreases-loop
+sub-fuse-in-3 : tie.Need-slice_bounds-fuse_in-count-in-loop-i-2 invariant-loop decreases-loop
 sub-fuse-in-3 c = omega arith
 
-part-fuse-in-start-3 : tie.Need-slice-bounds-fuse-in-start-3 invariant-loop decreases-loop
+part-fuse-in-start-3 : tie.Need-slice_bounds-fuse_in-start-in-loop-i-2 invariant-loop decreases-loop
 part-fuse-in-start-3 c = omega arith
 
-part-fuse-in-end-3 : tie.Need-slice-bounds-fuse-in-end-3 invariant-loop decreases-loop
+part-fuse-in-end-3 : tie.Need-slice_bounds-fuse_in-end-in-loop-i-2 invariant-loop decreases-loop
 part-fuse-in-end-3 c = omega (arith, inside c.before.before)
 
-mul-fuse-in-4 : tie.Need-overflow-mul-fuse-in-4 invariant-loop decreases-loop
+mul-fuse-in-4 : tie.Need-offset_bounds-gh-o invariant-loop decreases-loop
 mul-fuse-in-4 c = omega (arith, inside c.before.before.before)
 
-sub-fuse-in-4 : tie.Need-overflow-sub-fuse-in-4 invariant-loop decreases-loop
+sub-fuse-in-4 : tie.Need-slice_bounds-fuse_in-count-in-loop-i-3 invariant-loop decreases-loop
 sub-fuse-in-4 c = omega arith
 
-part-fuse-in-start-4 : tie.Need-slice-bounds-fuse-in-start-4 invariant-loop decreases-loop
+part-fuse-in-start-4 : tie.Need-slice_bounds-fuse_in-start-in-loop-i-3 invariant-loop decreases-loop
 part-fuse-in-start-4 c = omega arith
 
-part-fuse-in-end-4 : tie.Need-slice-bounds-fuse-in-end-4 invariant-loop decreases-loop
+part-fuse-in-end-4 : tie.Need-slice_bounds-fuse_in-end-in-loop-i-3 invariant-loop decreases-loop
 part-fuse-in-end-4 c = omega (arith, inside c.before.before.before)
 
-mul-fuse-in-5 : tie.Need-overflow-mul-fuse-in-5 invariant-loop decreases-loop
+mul-fuse-in-5 : tie.Need-offset_bounds-tv-tv_at invariant-loop decreases-loop
 mul-fuse-in-5 c = omega (arith, inside c.before.before.before.before)
 
-sub-fuse-in-5 : tie.Need-overflow-sub-fuse-in-5 invariant-loop decreases-loop
+sub-fuse-in-5 : tie.Need-slice_bounds-fuse_in-count-in-loop-i-4 invariant-loop decreases-loop
 sub-fuse-in-5 c = omega arith
 
-part-fuse-in-start-5 : tie.Need-slice-bounds-fuse-in-start-5 invariant-loop decreases-loop
+part-fuse-in-start-5 : tie.Need-slice_bounds-fuse_in-start-in-loop-i-4 invariant-loop decreases-loop
 part-fuse-in-start-5 c = omega arith
 
-part-fuse-in-end-5 : tie.Need-slice-bounds-fuse-in-end-5 invariant-loop decreases-loop
+part-fuse-in-end-5 : tie.Need-slice_bounds-fuse_in-end-in-loop-i-4 invariant-loop decreases-loop
 part-fuse-in-end-5 c = omega (arith, inside c.before.before.before.before)
 
-mul-fuse-in-6 : tie.Need-overflow-mul-fuse-in-6 invariant-loop decreases-loop
+mul-fuse-in-6 : tie.Need-offset_bounds-out-at invariant-loop decreases-loop
 mul-fuse-in-6 c = omega (arith, inside c.before.before.before.before.before.before.before.before.before.before)
 
-sub-fuse-in-6 : tie.Need-overflow-sub-fuse-in-6 invariant-loop decreases-loop
+sub-fuse-in-6 : tie.Need-slice_bounds-fuse_in-count-in-loop-i-5 invariant-loop decreases-loop
 sub-fuse-in-6 c = omega arith
 
-part-fuse-in-start-6 : tie.Need-slice-bounds-fuse-in-start-6 invariant-loop decreases-loop
+part-fuse-in-start-6 : tie.Need-slice_bounds-fuse_in-start-in-loop-i-5 invariant-loop decreases-loop
 part-fuse-in-start-6 c = omega arith
 
-part-fuse-in-end-6 : tie.Need-slice-bounds-fuse-in-end-6 invariant-loop decreases-loop
+part-fuse-in-end-6 : tie.Need-slice_bounds-fuse_in-end-in-loop-i-5 invariant-loop decreases-loop
 part-fuse-in-end-6 c = omega (arith, inside c.before.before.before.before.before.before.before.before.before.before)
 
-add-i : tie.Need-overflow-add-i invariant-loop decreases-loop
-add-i c = let k = test c.before.before.before.before.before.before.before.before.before.before.before in next k.loop-test.taken (start k).pre.0.6
+add-i : tie.Need-overflow_add-i invariant-loop decreases-loop
+add-i c = let k = test c.before.before.before.before.before.before.before.before.before.before.before in next k.loop-i-test.true (start k).requires.0.6
 
-loop-less : tie.Need-loop-smaller invariant-loop decreases-loop
+loop-less : tie.Need-loop-i-smaller invariant-loop decreases-loop
 loop-less c = omega arith
 
-same_length : tie.Need-same-length invariant-loop decreases-loop
+same_length : tie.Need-shape_of-t invariant-loop decreases-loop
 same_length c = omega arith
 
-same-length-2 : tie.Need-same-length-2 invariant-loop decreases-loop
+same-length-2 : tie.Need-shape_of-f invariant-loop decreases-loop
 same-length-2 c = omega arith
 
-same-length-3 : tie.Need-same-length-3 invariant-loop decreases-loop
+same-length-3 : tie.Need-shape_of-r invariant-loop decreases-loop
 same-length-3 c = omega arith
 
-same-length-4 : tie.Need-same-length-4 invariant-loop decreases-loop
+same-length-4 : tie.Need-shape_of-p invariant-loop decreases-loop
 same-length-4 c = omega arith
 
-same-length-5 : tie.Need-same-length-5 invariant-loop decreases-loop
+same-length-5 : tie.Need-shape_of-q invariant-loop decreases-loop
 same-length-5 c = omega arith
 
-same-length-6 : tie.Need-same-length-6 invariant-loop decreases-loop
+same-length-6 : tie.Need-shape_of-out invariant-loop decreases-loop
 same-length-6 c = omega arith
 
 -- what is asked, of a row whose length is that of the frame's
@@ -231,10 +231,10 @@ three w = omega arith
 room : (f : ℕ → ℕ) {n w k m : ℕ} → n ≡ w → k ≡ m → f w ≤ m → f n ≤ k
 room f e h l = rw (e, h) l
 
-fuse-in-requires : tie.Need-fuse-in-requires invariant-loop decreases-loop
+fuse-in-requires : tie.Need-fuse_in-requires invariant-loop decreases-loop
 fuse-in-requires c κs =
     let k = test c in
-    let l = k.before.loop in
+    let l = k.before.loop-i in
     let v = start k in
     let a = v.args in
     let s = a.w + 14 in
@@ -246,55 +246,55 @@ fuse-in-requires c κs =
     let l₂ = part_length (l.i * s) (9 * s) a.dv.now (omega (arith, (inside k).1)) in
     let l₃ = part_length (l.i * s) (3 * s - 4) a.gh.now (omega (arith, (inside k).1)) in
     let l₄ = part_length (l.i * h) (3 * h) a.tv.now (omega (arith, (inside k).3, (inside k).5)) in
-    let u = v.pre.1.1.1 in (
-      (bit (a.odd + l.i), all-part (λ n. n ≤ 4095) 0 (omega arith) (l.i * a.w) (l.i * a.w + a.w - l.i * a.w) a.x.now v.pre.0.1, some lx v.pre.0.4, lo ∙ sym lx),
+    let u = v.requires.1.1.1 in (
+      (bit (a.odd + l.i), all-part (λ n. n ≤ 4095) 0 (omega arith) (l.i * a.w) (l.i * a.w + a.w - l.i * a.w) a.x.now v.requires.0.1, some lx v.requires.0.4, lo ∙ sym lx),
       (
-        (wide lx, narrow a.w v.pre.0.5, l₁, l₂, ap (λ n. n + 4) l₃ ∙ three a.w, l₄ ∙ sym (ap (λ n. 3 * ((n + 1) / 2)) lx)),
+        (wide lx, narrow a.w v.requires.0.5, l₁, l₂, ap (λ n. n + 4) l₃ ∙ three a.w, l₄ ∙ sym (ap (λ n. 3 * ((n + 1) / 2)) lx)),
         (
           (
-            all-part P (pos 0) (omega arith) (l.i * s) (l.i * s + 3 * s - l.i * s) a.dh.now v.pre.1.1.0.0,
-            all-part P (pos 0) (omega arith) (l.i * s) (l.i * s + 9 * s - l.i * s) a.dv.now v.pre.1.1.0.1,
-            all-part (λ g. g ≤ most_gradient) 0 (omega arith) (l.i * s) (l.i * s + (3 * s - 4) - l.i * s) a.gh.now v.pre.1.1.0.2,
-            all-part (λ t. t ≤ most_sum) 0 (omega arith) (l.i * h) (l.i * h + 3 * h - l.i * h) a.tv.now v.pre.1.1.0.3,
+            all-part P (pos 0) (omega arith) (l.i * s) (l.i * s + 3 * s - l.i * s) a.dh.now v.requires.1.1.0.0,
+            all-part P (pos 0) (omega arith) (l.i * s) (l.i * s + 9 * s - l.i * s) a.dv.now v.requires.1.1.0.1,
+            all-part (λ g. g ≤ most_gradient) 0 (omega arith) (l.i * s) (l.i * s + (3 * s - 4) - l.i * s) a.gh.now v.requires.1.1.0.2,
+            all-part (λ t. t ≤ most_sum) 0 (omega arith) (l.i * h) (l.i * h + 3 * h - l.i * h) a.tv.now v.requires.1.1.0.3,
           ),
           (
-            room (λ n. (n + 1) / 2 + 1) lx l.inv.2 u.0,
-            room (λ n. 4 * ((n + 1) / 2)) lx l.inv.3 u.1,
-            room (λ n. (n + 1) / 2) lx l.inv.4 u.2,
-            room (λ n. (n + 1) / 2) lx l.inv.5 u.3,
-            room (λ n. (n + 1) / 2) lx l.inv.6 u.4,
+            room (λ n. (n + 1) / 2 + 1) lx l.invariant.2 u.0,
+            room (λ n. 4 * ((n + 1) / 2)) lx l.invariant.3 u.1,
+            room (λ n. (n + 1) / 2) lx l.invariant.4 u.2,
+            room (λ n. (n + 1) / 2) lx l.invariant.5 u.3,
+            room (λ n. (n + 1) / 2) lx l.invariant.6 u.4,
           ),
         ),
       ),
     )
 
-loop-again : tie.Need-loop-preserved invariant-loop decreases-loop
+loop-again : tie.Need-loop-i-preserved invariant-loop decreases-loop
 loop-again c =
     let r = c.before.before.before.before.before.before.before.before.before.before in
     let k = test r.before in
-    let l = k.before.loop in
+    let l = k.before.loop-i in
     let v = start k in
     let a = v.args in
-    let z = r.fuse-in.auto.1.1.1.1.1.1.1.1 in (
+    (
       omega arith,
-      joined-turn _ _ (row-length a.smoothing a.x.now a.w a.odd a.dh.now a.dv.now a.gh.now a.tv.now) l.i a.b a.out.now k.loop-test.taken v.pre.0.3 l.inv.1
-          (r.fuse-in.ensures ∙ row_same a.smoothing a.x.now a.dh.now a.dv.now a.gh.now a.tv.now a.w a.odd l.i (part_length (l.i * a.w) a.w a.x.now (omega (arith, (inside k).0)))),
-      z.0 ∙ l.inv.2,
-      z.1.0 ∙ l.inv.3,
-      z.1.1.0 ∙ l.inv.4,
-      z.1.1.1.0 ∙ l.inv.5,
-      z.1.1.1.1.0 ∙ l.inv.6,
+      joined-turn _ _ (row-length a.smoothing a.x.now a.w a.odd a.dh.now a.dv.now a.gh.now a.tv.now) l.i a.b a.out.now k.loop-i-test.true v.requires.0.3 l.invariant.1
+          (r.fuse_in.ensures ∙ row_same a.smoothing a.x.now a.dh.now a.dv.now a.gh.now a.tv.now a.w a.odd l.i (part_length (l.i * a.w) a.w a.x.now (omega (arith, (inside k).0)))),
+      r.fuse_in.auto.t ∙ l.invariant.2,
+      r.fuse_in.auto.f ∙ l.invariant.3,
+      r.fuse_in.auto.r ∙ l.invariant.4,
+      r.fuse_in.auto.p ∙ l.invariant.5,
+      r.fuse_in.auto.q ∙ l.invariant.6,
     )
 
 returns : tie.Need-returns invariant-loop decreases-loop
 returns c =
-    let l = c.before.loop in
+    let l = c.before.loop-i in
     let v = c.before.before.before.before.before.before.before.before.before in
     let a = v.args in
-    l.invariant.1.0 ∙ joined-done _ _ (row-length a.smoothing a.x.now a.w a.odd a.dh.now a.dv.now a.gh.now a.tv.now) l.i a.b _ l.invariant.0 c.loop-test.false v.requires.0.3
+    l.invariant.1.0 ∙ joined-done _ _ (row-length a.smoothing a.x.now a.w a.odd a.dh.now a.dv.now a.gh.now a.tv.now) l.i a.b _ l.invariant.0 c.loop-i-test.false v.requires.0.3
 
-pub fuse-rows-spec : {M : Type 1} → statement M
-fuse-rows-spec =
+pub fuse_rows_spec : {M : Type 1} → statement M
+fuse_rows_spec =
     tie.close
     (tie.spec
     invariant-loop

@@ -32,90 +32,90 @@ lent-from f start m a i b n h lent k l = let e : a + (i + k) ≡ a + i + k = ome
 rows-from : (f : Frame) (start : ℕ) (piece : List ℕ) (a i b : ℕ) → joined (rows f start piece (a + i)) b ≡ joined (λ k. rows f start piece a (i + k)) b
 rows-from f start piece a i b = joined_same _ _ b (λ k _. (let e : a + i + k ≡ a + (i + k) = omega arith in ap (green_row f start piece) e))
 
-abbrev invariant-loop : tie.invariant-loop
+abbrev invariant-loop : tie.invariant-loop-i
 invariant-loop frame start piece a n x₀ d₀ g₀ tv₀ t₀ f₀ r₀ p₀ q₀ out₀ w i₀ x d g tv t f r p q out i =
     (i ≤ n) × (Handed (rows frame start piece a) frame.width (row-length frame start piece a) i out₀ out) × (length x ≡ length x₀) × (length d ≡ length d₀) × (length g ≡ length g₀) × (length tv ≡ length tv₀) × (length t ≡ length t₀)
     × (length f ≡ length f₀) × (length r ≡ length r₀) × (length p ≡ length p₀) × (length q ≡ length q₀)
 
-abbrev decreases-loop : tie.decreases-loop
+abbrev decreases-loop : tie.decreases-loop-i
 decreases-loop frame start piece a n x₀ d₀ g₀ tv₀ t₀ f₀ r₀ p₀ q₀ out₀ w i₀ x d g tv t f r p q out i = n - i
 
-loop-holds : tie.Need-loop-init invariant-loop decreases-loop
+loop-holds : tie.Need-loop-i-init invariant-loop decreases-loop
 loop-holds c =
     let a = c.before.before.before.before.before.before.before.before.args in
     (omega arith, (joined-none _ _ (row-length a.frame a.start a.piece.now a.a) _, refl), refl, refl, refl, refl, refl, refl, refl, refl, refl)
 
-sub-block-size : tie.Need-overflow-sub-block-size invariant-loop decreases-loop
+sub-block-size : tie.Need-overflow_sub-n invariant-loop decreases-loop
 sub-block-size c = omega arith
 
-block-size-requires : tie.Need-block-size-requires invariant-loop decreases-loop
+block-size-requires : tie.Need-block_size-b-requires invariant-loop decreases-loop
 block-size-requires c κs = tt
 
 -- the entry, the block's size, and after the call
-abbrev start : tie.In-loop invariant-loop decreases-loop → tie.Start invariant-loop decreases-loop
+abbrev start : tie.In-loop-i invariant-loop decreases-loop → tie.Start invariant-loop decreases-loop
 start c = c.before.before.before.before.before.before.before.before.before.before
 
-abbrev sized : tie.After-green-block-in-arg10 invariant-loop decreases-loop → tie.After-block-size invariant-loop decreases-loop
+abbrev sized : tie.After-green_block_in-arg-in-loop-i-9-1 invariant-loop decreases-loop → tie.After-block_size-b invariant-loop decreases-loop
 sized c = c.before.before.before.before.before.before.before.before.before.before
 
-abbrev called : tie.After-slice-known14 invariant-loop decreases-loop → tie.After-green-block-in invariant-loop decreases-loop
+abbrev called : tie.After-slice_known-in-loop-i-7-1 invariant-loop decreases-loop → tie.After-green_block_in invariant-loop decreases-loop
 called c = c.before.before.before.before.before.before.before.before.before.before.before.before.before.before.before.before.before
 
-abbrev block : tie.After-slice-known14 invariant-loop decreases-loop → tie.After-block-size invariant-loop decreases-loop
+abbrev block : tie.After-slice_known-in-loop-i-7-1 invariant-loop decreases-loop → tie.After-block_size-b invariant-loop decreases-loop
 block c = sized (called c).before
 
 -- the block lies among the rows, and so in out
-inside : (c : tie.After-block-size invariant-loop decreases-loop) → let k = c.before in k.before.loop.i + c.block_size.result ≤ (start k).args.n
-inside c = omega (arith, c.block_size.ensures, c.before.loop-test.true)
+inside : (c : tie.After-block_size-b invariant-loop decreases-loop) → let k = c.before in k.before.loop-i.i + c.block_size-b.result ≤ (start k).args.n
+inside c = omega (arith, c.block_size-b.ensures, c.before.loop-i-test.true)
 
-some : (c : tie.After-block-size invariant-loop decreases-loop) → 0 < c.block_size.result
-some c = omega (arith, c.block_size.ensures, c.before.loop-test.true)
+some : (c : tie.After-block_size-b invariant-loop decreases-loop) → 0 < c.block_size-b.result
+some c = omega (arith, c.block_size-b.ensures, c.before.loop-i-test.true)
 
-few : (c : tie.After-block-size invariant-loop decreases-loop) → c.block_size.result ≤ 8
-few c = omega (arith, c.block_size.ensures)
+few : (c : tie.After-block_size-b invariant-loop decreases-loop) → c.block_size-b.result ≤ 8
+few c = omega (arith, c.block_size-b.ensures)
 
-writes : (c : tie.After-block-size invariant-loop decreases-loop) → let k = c.before in let a = (start k).args in k.before.loop.i * a.frame.width + c.block_size.result * a.frame.width ≤ a.n * a.frame.width
+writes : (c : tie.After-block_size-b invariant-loop decreases-loop) → let k = c.before in let a = (start k).args in k.before.loop-i.i * a.frame.width + c.block_size-b.result * a.frame.width ≤ a.n * a.frame.width
 writes c = rw add-mul at (mul-le-mul_right (start c.before).args.frame.width (inside c))
 
-doubled : (c : tie.After-block-size invariant-loop decreases-loop) → let k = c.before in Fits w64 (k.before.loop.i * (start k).args.frame.width * 2)
-doubled c = omega (arith, writes c, (start c.before).pre.1.1.1)
+doubled : (c : tie.After-block_size-b invariant-loop decreases-loop) → let k = c.before in Fits w64 (k.before.loop-i.i * (start k).args.frame.width * 2)
+doubled c = omega (arith, writes c, (start c.before).requires.1.1.1)
 
-mul_at : tie.Need-overflow-mul-at invariant-loop decreases-loop
+mul_at : tie.Need-overflow_mul-at invariant-loop decreases-loop
 mul_at c = omega (arith, writes c)
 
-mul-end : tie.Need-overflow-mul-end invariant-loop decreases-loop
+mul-end : tie.Need-overflow_mul-end invariant-loop decreases-loop
 mul-end c = omega (arith, writes c)
 
-add-end : tie.Need-overflow-add-end invariant-loop decreases-loop
+add-end : tie.Need-overflow_add-end invariant-loop decreases-loop
 add-end c = omega (arith, writes c)
 
-add-green-block-in : tie.Need-overflow-add-green-block-in invariant-loop decreases-loop
+add-green-block-in : tie.Need-overflow_add-a invariant-loop decreases-loop
 add-green-block-in c = omega arith
 
-mul-green-block-in : tie.Need-overflow-mul-green-block-in invariant-loop decreases-loop
+mul-green-block-in : tie.Need-offset_bounds-out-at invariant-loop decreases-loop
 mul-green-block-in c = doubled c.before.before.before.before.before.before.before.before.before
 
-sub-green-block-in : tie.Need-overflow-sub-green-block-in invariant-loop decreases-loop
+sub-green-block-in : tie.Need-slice_bounds-green_block_in-count invariant-loop decreases-loop
 sub-green-block-in c = omega arith
 
-part-green-block-in-start : tie.Need-slice-bounds-green-block-in-start invariant-loop decreases-loop
+part-green-block-in-start : tie.Need-slice_bounds-green_block_in-start invariant-loop decreases-loop
 part-green-block-in-start c = omega arith
 
-part-green-block-in-end : tie.Need-slice-bounds-green-block-in-end invariant-loop decreases-loop
+part-green-block-in-end : tie.Need-slice_bounds-green_block_in-end invariant-loop decreases-loop
 part-green-block-in-end c = omega (arith, writes c.before.before.before.before.before.before.before.before.before)
 
-green-block-in-requires : tie.Need-green-block-in-requires invariant-loop decreases-loop
+green-block-in-requires : tie.Need-green_block_in-requires invariant-loop decreases-loop
 green-block-in-requires c κs =
     let e = sized c in
     let k = e.before in
-    let l = k.before.loop in
+    let l = k.before.loop-i in
     let v = start k in
-    let i = l.inv in
+    let i = l.invariant in
     let a = v.args in (
-      (lent-from a.frame a.start _ a.a l.i e.block_size.result a.n (inside e) v.pre.0.0, some e, few e, v.pre.0.1),
+      (lent-from a.frame a.start _ a.a l.i e.block_size-b.result a.n (inside e) v.requires.0.0, some e, few e, v.requires.0.1),
       (
-        room-kept v.pre.1.1.0 i.2 i.3 i.4 i.5 i.6 i.7 i.8 i.9 i.10,
-        part_length (l.i * a.frame.width) (e.block_size.result * a.frame.width) l.out (omega (arith, writes e, i.1.1, v.pre.1.1.1)),
+        room-kept v.requires.1.1.0 i.2 i.3 i.4 i.5 i.6 i.7 i.8 i.9 i.10,
+        part_length (l.i * a.frame.width) (e.block_size-b.result * a.frame.width) l.out (omega (arith, writes e, i.1.1, v.requires.1.1.1)),
       ),
     )
 
@@ -125,74 +125,74 @@ next i b h l = omega arith
 less : (i b : ℕ) {n : ℕ} → i + b ≤ n → 0 < b → n - (i + b) < n - i
 less i b h l = omega arith
 
-add-i : tie.Need-overflow-add-i invariant-loop decreases-loop
-add-i c = let e = block c in next e.before.before.loop.i e.block_size.result (inside (block c)) (start (block c).before).pre.1.0.0
+add-i : tie.Need-overflow_add-i invariant-loop decreases-loop
+add-i c = let e = block c in next e.before.before.loop-i.i e.block_size-b.result (inside (block c)) (start (block c).before).requires.1.0.0
 
-loop-less : tie.Need-loop-smaller invariant-loop decreases-loop
-loop-less c = let e = block c in less e.before.before.loop.i e.block_size.result (inside (block c)) (some (block c))
+loop-less : tie.Need-loop-i-smaller invariant-loop decreases-loop
+loop-less c = let e = block c in less e.before.before.loop-i.i e.block_size-b.result (inside (block c)) (some (block c))
 
-loop-again : tie.Need-loop-preserved invariant-loop decreases-loop
+loop-again : tie.Need-loop-i-preserved invariant-loop decreases-loop
 loop-again c =
     let r = called c in
     let e = block c in
     let k = e.before in
-    let l = k.before.loop in
-    let i = l.inv in
+    let l = k.before.loop-i in
+    let i = l.invariant in
     let v = start k in
     let a = v.args in
-    let z = r.green-block-in.kept.1.1.1.1.1 in (
+    (
       inside e,
-      joined-turns _ _ (row-length a.frame a.start a.piece.now a.a) l.i e.block_size.result a.n a.out.now (inside e) v.pre.1.1.1 i.1
-          (r.green-block-in.ensures ∙ rows-from a.frame a.start a.piece.now a.a l.i e.block_size.result),
-      z.0 ∙ i.2,
-      z.1.0 ∙ i.3,
-      z.1.1.0 ∙ i.4,
-      z.1.1.1.0 ∙ i.5,
-      z.1.1.1.1.0 ∙ i.6,
-      z.1.1.1.1.1.0 ∙ i.7,
-      z.1.1.1.1.1.1.0 ∙ i.8,
-      z.1.1.1.1.1.1.1.0 ∙ i.9,
-      z.1.1.1.1.1.1.1.1.0 ∙ i.10,
+      joined-turns _ _ (row-length a.frame a.start a.piece.now a.a) l.i e.block_size-b.result a.n a.out.now (inside e) v.requires.1.1.1 i.1
+          (r.green_block_in.ensures ∙ rows-from a.frame a.start a.piece.now a.a l.i e.block_size-b.result),
+      r.green_block_in.auto.x ∙ i.2,
+      r.green_block_in.auto.d ∙ i.3,
+      r.green_block_in.auto.g ∙ i.4,
+      r.green_block_in.auto.tv ∙ i.5,
+      r.green_block_in.auto.t ∙ i.6,
+      r.green_block_in.auto.f ∙ i.7,
+      r.green_block_in.auto.r ∙ i.8,
+      r.green_block_in.auto.p ∙ i.9,
+      r.green_block_in.auto.q ∙ i.10,
     )
 
-same_length : tie.Need-same-length invariant-loop decreases-loop
+same_length : tie.Need-shape_of-x invariant-loop decreases-loop
 same_length c = omega arith
 
-same-length-2 : tie.Need-same-length-2 invariant-loop decreases-loop
+same-length-2 : tie.Need-shape_of-d invariant-loop decreases-loop
 same-length-2 c = omega arith
 
-same-length-3 : tie.Need-same-length-3 invariant-loop decreases-loop
+same-length-3 : tie.Need-shape_of-g invariant-loop decreases-loop
 same-length-3 c = omega arith
 
-same-length-4 : tie.Need-same-length-4 invariant-loop decreases-loop
+same-length-4 : tie.Need-shape_of-tv invariant-loop decreases-loop
 same-length-4 c = omega arith
 
-same-length-5 : tie.Need-same-length-5 invariant-loop decreases-loop
+same-length-5 : tie.Need-shape_of-t invariant-loop decreases-loop
 same-length-5 c = omega arith
 
-same-length-6 : tie.Need-same-length-6 invariant-loop decreases-loop
+same-length-6 : tie.Need-shape_of-f invariant-loop decreases-loop
 same-length-6 c = omega arith
 
-same-length-7 : tie.Need-same-length-7 invariant-loop decreases-loop
+same-length-7 : tie.Need-shape_of-r invariant-loop decreases-loop
 same-length-7 c = omega arith
 
-same-length-8 : tie.Need-same-length-8 invariant-loop decreases-loop
+same-length-8 : tie.Need-shape_of-p invariant-loop decreases-loop
 same-length-8 c = omega arith
 
-same-length-9 : tie.Need-same-length-9 invariant-loop decreases-loop
+same-length-9 : tie.Need-shape_of-q invariant-loop decreases-loop
 same-length-9 c = omega arith
 
-same-length-10 : tie.Need-same-length-10 invariant-loop decreases-loop
+same-length-10 : tie.Need-shape_of-out invariant-loop decreases-loop
 same-length-10 c = omega arith
 
 returns : tie.Need-returns invariant-loop decreases-loop
 returns c =
-    let l = c.before.loop in
+    let l = c.before.loop-i in
     let s = c.before.before.before.before.before.before.before.before.before.before in
-    l.invariant.1.0 ∙ joined-done _ _ (row-length s.args.frame s.args.start s.args.piece.now s.args.a) l.i s.args.n _ l.invariant.0 c.loop-test.false s.requires.1.1.1
+    l.invariant.1.0 ∙ joined-done _ _ (row-length s.args.frame s.args.start s.args.piece.now s.args.a) l.i s.args.n _ l.invariant.0 c.loop-i-test.false s.requires.1.1.1
 
-pub green-rows-spec : {M : Type 1} → statement M
-green-rows-spec =
+pub green_rows_spec : {M : Type 1} → statement M
+green_rows_spec =
     tie.close
     (tie.spec
     invariant-loop
