@@ -4,17 +4,17 @@ use borrow.Author.Rules.{rules}
 use Rattle.strip_rows.proofs.rooms.fill_1024.Statement.{statement}
 use Rattle.strip_rows.proofs.rooms.fill_1024.Tie as tie
 
-abbrev start : tie.After-below → tie.Start
+abbrev start : tie.After-below-1 → tie.Start
 start c = c.before.before.before.before.before.before.before.before.before.before.before.before.before.before.before.before.before.before
 
-abbrev filled : tie.After-below2 → tie.After-fill-planes
+abbrev filled : tie.After-below-2-1 → tie.After-fill_planes
 filled c = c.before.before.before.before.before.before.before.before.before.before.before.before.before.before.before.before.before
 
-fill-planes-requires : tie.Need-fill-planes-requires
+fill-planes-requires : tie.Need-fill_planes-requires
 fill-planes-requires c κs =
     let s = start c in
-    let w = s.pre.1 in (
-      s.pre.0,
+    let w = s.requires.1 in (
+      s.requires.0,
       (
         record {
           for-readings = omega (arith, w);
@@ -33,18 +33,18 @@ fill-planes-requires c κs =
       ),
     )
 
-same_length : tie.Need-same-length
-same_length c = (filled c).fill-planes.auto.1.1.1.1.0
+same_length : tie.Need-shape_of-red
+same_length c = (filled c).fill_planes.auto.red
 
-same-length-2 : tie.Need-same-length-2
-same-length-2 c = (filled c).fill-planes.auto.1.1.1.1.1.0
+same-length-2 : tie.Need-shape_of-green
+same-length-2 c = (filled c).fill_planes.auto.green
 
-same-length-3 : tie.Need-same-length-3
-same-length-3 c = (filled c).fill-planes.auto.1.1.1.1.1.1.0
+same-length-3 : tie.Need-shape_of-blue
+same-length-3 c = (filled c).fill_planes.auto.blue
 
 -- what else is asked is found
-pub fill-1024-spec : {M : Type 1} → statement M
-fill-1024-spec =
+pub fill_1024_spec : {M : Type 1} → statement M
+fill_1024_spec =
     tie.close
     (tie.spec
     (λ c. search rules)
