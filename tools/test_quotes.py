@@ -57,7 +57,7 @@ class SameSignatures(unittest.TestCase):
 
     def parameters(self, given):
         """A Rattle function's parameters as C has them: a slice is a pointer and a count."""
-        for name, kind in re.findall(r"(\w+): ([^,]+)", given):
+        for name, kind in re.findall(r"(\w+): ([^,\n]+)", given):
             if kind.startswith("&"):
                 yield TYPES[kind] + name
                 kind, name = "usize", name + "_count"
