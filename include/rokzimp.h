@@ -2,7 +2,8 @@
  * planes, and the mosaic back from them; and test frames that anyone can make from a seed.
  *
  * Each function below is proved to return, to answer and to write what is said of it, for every value of its arguments
- * (crates/capi/src has the contracts). What is said of stack, heap and locks was measured and seen in the code, not proved.
+ * (crates/capi_c/src has the contracts). What is said of stack, heap and locks was measured and seen in the code, not proved;
+ * the figures of stack were measured with the older kit, by which the library was built before.
  * The proof relies on the caller for this:
  *
  *   - A pointer and the count after it are one run of that many 16-bit samples, at an even address, which the call may read and, where the pointer

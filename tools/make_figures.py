@@ -155,17 +155,16 @@ def named(f):
 def heads(seed):
     """The first lines of both tables."""
     planes = head('Frames, one of each layout and four small ones, and their planes by the whole-number rules. proofs/PlaneTable.antt has the theorem.', seed) + [
-        'use Prim.Native.Nat.{ℕ}',
-        'use mathlib.Core.List.{List, [], _∷_}',
-        'use Rattle·bayer.specs.declared.frame.Frame.{Frame}',
-        'use Rattle·bayer.specs.Frame.{frame, smoothed}',
-        'use Rattle·worked_planes·specs.specs.PlanesClaim.{PlanesClaim, givesPlanes}',
+        'use Rattle.std.specs.Prelude.{ℕ, List, [], ◌∷◌}',
+        'use Rattle.bayer.specs.declared.frame.Frame.{Frame}',
+        'use Rattle.bayer.specs.Frame.{frame, smoothed}',
+        'use Rattle.worked_planes.specs.PlanesClaim.{PlanesClaim, gives_planes}',
     ]
     exact = head('Values of the exact reconstruction of the frames of worked_planes/specs/WorkedPlanes. proofs/ExactTable.antt has the theorem.', seed) + [
-        'use mathlib.Core.List.{List, [], _∷_}',
-        'use Rattle·bayer.specs.declared.colour.Colour.the-variants.{Red, Green, Blue}',
-        'use Rattle·worked_exact·specs.specs.ExactClaim.{Value, exactly, ExactClaim, givesExact}',
-        'use Rattle·worked_planes.specs.WorkedPlanes.{%s}' % ', '.join('frame%s, readings%s' % (n, n) for n in LAST),
+        'use Rattle.std.specs.Prelude.{List, [], ◌∷◌}',
+        'use Rattle.bayer.specs.declared.colour.Colour.TheVariants.{Red, Green, Blue}',
+        'use Rattle.worked_exact.specs.ExactClaim.{Value, exactly, ExactClaim, gives_exact}',
+        'use Rattle.worked_planes.specs.WorkedPlanes.{%s}' % ', '.join('frame%s, readings%s' % (n, n) for n in LAST),
     ]
     return planes, exact
 
@@ -181,7 +180,7 @@ def make(seed, directory):
         planes += cells(f, 'readings' + n, frame)
         for name, plane in zip(PLANES, r.whole(RULES, f, frame)):
             planes += cells(f, name.lower() + n, plane)
-        planes += claim('planes' + n, 'PlanesClaim', 'givesPlanes frame%s readings%s red%s green%s blue%s' % (n, n, n, n, n))
+        planes += claim('planes' + n, 'PlanesClaim', 'gives_planes frame%s readings%s red%s green%s blue%s' % (n, n, n, n, n))
         values = r.exact_planes(RULES, f, frame)
         by_kind = places(g, f, values) if f.W * f.H > 6 else {}         # not of the three smallest
         if f.W >= 8:                                                    # the four of FRAMES
@@ -190,11 +189,11 @@ def make(seed, directory):
         chosen = by_kind.values() or last_places(f)
         exact += ['', 'abbrev pub values%s : List Value' % n, 'values%s =' % n] + lines(
             'exactly %s %d %d %d %d' % (PLANES[k], i, j, x.numerator, x.denominator) for k, i, j in sorted(chosen) for x in [values[k][i * f.W + j]])
-        exact += claim('exact' + n, 'ExactClaim', 'givesExact frame%s readings%s values%s' % (n, n, n))
+        exact += claim('exact' + n, 'ExactClaim', 'gives_exact frame%s readings%s values%s' % (n, n, n))
     assert kinds == KINDS, 'the frames of this seed lack %s' % (KINDS - kinds)
     assert len(greens) == 4, 'the frames of this seed lack an exact green of some smoothing'
-    planes += claim('workedPlanes', 'List PlanesClaim', ' ∷ '.join('planes' + n for n in LAST) + ' ∷ []')
-    exact += claim('workedExact', 'List ExactClaim', ' ∷ '.join('exact' + n for n in LAST) + ' ∷ []')
+    planes += claim('worked_planes', 'List PlanesClaim', ' ∷ '.join('planes' + n for n in LAST) + ' ∷ []')
+    exact += claim('worked_exact', 'List ExactClaim', ' ∷ '.join('exact' + n for n in LAST) + ' ∷ []')
     for crate, name, text in (('worked_planes', 'WorkedPlanes', planes), ('worked_exact', 'WorkedExact', exact)):
         with open(os.path.join(directory or os.path.join(ROOT, 'crates', crate, 'specs'), name + '.antt'), 'w', encoding='utf-8') as out:
             out.write('\n'.join(text) + '\n')

@@ -21,7 +21,7 @@ import unittest.mock
 import zlib
 
 from stage import ROOT, RULES
-from test_quotes import Quotes, SamePrograms  # noqa: F401, so that its tests run too
+from test_quotes import Quotes, SamePrograms, SameSignatures  # noqa: F401, so that its tests run too
 sys.path.insert(0, os.path.join(ROOT, "python"))
 import reference
 import rokzimp

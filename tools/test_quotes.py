@@ -1,6 +1,7 @@
 #!/usr/bin/env python3
-"""Tests of what stands in two places: what docs/PROVED.md quotes is in the files that it names, and the programs that run again on another
-input are the same program. Needs no library. tools/test_python.py runs it too.
+"""Tests of what stands in two places: what docs/PROVED.md quotes is in the files that it names, the programs that run again on another
+input are the same program, and the functions that C calls have the parameters of include/rokzimp.h, in its order. Needs no library.
+tools/test_python.py runs it too.
 
     tools/test_quotes.py"""
 import os
@@ -37,6 +38,49 @@ class SamePrograms(unittest.TestCase):
             for crate in again:
                 self.assertEqual(self.code(program), self.code(crate), crate)
         self.assertNotEqual(self.code("planes"), self.code("test_planes"))
+
+
+# what C writes for the types of parameters and results, and for names of parameters
+TYPES = {"usize": "size_t", "u64": "uint64_t", "u32": "uint32_t", "u8": "uint8_t", "&[u16]": "const uint16_t *", "&mut [u16]": "uint16_t *"}
+NAMES = {"a": "first_row", "n": "rows", "r": "steps", "plane_count": "count"}
+PLANES = "red", "green", "blue", "mosaic"      # of which a check takes the lengths alone
+
+
+class SameSignatures(unittest.TestCase):
+    """The contracts go by name, and C by position."""
+
+    def declared(self):
+        """The header's functions: name, result and parameters."""
+        header = re.sub(r"/\*.*?\*/", "", text("include", "rokzimp.h"), flags=re.DOTALL)
+        found = re.findall(r"^(\w+) (rokzimp_\w+)\(([^)]*)\);", header, re.MULTILINE)
+        return {name: (result, [re.sub(r"\s+", " ", one).strip().replace("* ", "*") for one in given.split(",")]) for result, name, given in found}
+
+    def parameters(self, given):
+        """A Rattle function's parameters as C has them: a slice is a pointer and a count."""
+        for name, kind in re.findall(r"(\w+): ([^,\n]+)", given):
+            if kind.startswith("&"):
+                yield TYPES[kind] + name
+                kind, name = "usize", name + "_count"
+            elif kind == "usize" and name in PLANES:
+                name += "_count"
+            yield "%s %s" % (TYPES[kind], NAMES.get(name, name))
+
+    def defined(self, crate):
+        folder = os.path.join("crates", crate, "src")
+        code = "".join(text(folder, name) for name in sorted(os.listdir(os.path.join(ROOT, folder))) if name.endswith(".rt"))
+        code = re.sub(r"&'\w+ ", "&", code)
+        found = re.findall(r"^pub (?:extern \"C\" )?fn (rokzimp_\w+)(?:<[^>]*>)?\(([^)]*)\) -> (\w+)", code, re.MULTILINE)
+        return {name: (TYPES[result], list(self.parameters(given))) for name, given, result in found}
+
+    def test_signatures(self):
+        declared, crates = self.declared(), [name for name in ("capi", "capi_c") if self.has_exports(name)]
+        self.assertEqual(22, len(declared))
+        self.assertTrue(crates)
+        for crate in crates:
+            self.assertEqual(declared, self.defined(crate), crate)
+
+    def has_exports(self, crate):
+        return os.path.isdir(os.path.join(ROOT, "crates", crate)) and bool(self.defined(crate))
 
 
 if __name__ == "__main__":

@@ -1,10 +1,11 @@
 #!/usr/bin/env python3
 """The cases of reference/vectors.py at the present stage, through the Python module, and with it through the C library.
 
-    rt check planes test_planes && tools/build_library.sh && tools/test_vectors.py SEED [COUNT]      COUNT (200) cases of each kind
+    (cd crates/planes && rt run < stdin) && (cd crates/test_planes && rt run < stdin)      # proves and builds the two programs
+    tools/build_library.sh && tools/test_vectors.py SEED [COUNT]                           # COUNT (200) cases of each kind
 
 Compared are the number of each call and every lent sample afterwards; where the call is refused the case has them as they were
-before. The small programs' cases (P, N) are handed to target/bin/planes and target/bin/test_planes. Prints how many cases of each
+before. The small programs' cases (P, N) are handed to crates/planes/out/planes and crates/test_planes/out/test_planes. Prints how many cases of each
 kind were tried, how many of them were refused, and those that differ; the exit status is 1 if one does. A kind, or a name in a case,
 that this file does not know is an error."""
 import array
@@ -101,7 +102,7 @@ def partner_view(case):
 
 def program(name):
     def tried(case):
-        ran = subprocess.run([os.path.join(ROOT, "target", "bin", name)], input=bytes(case.l()), capture_output=True)
+        ran = subprocess.run([os.path.join(ROOT, "crates", name, "out", name)], input=bytes(case.l()), capture_output=True)
         return vectors.lst(ran.stdout)
     return tried
 
