@@ -44,6 +44,7 @@ call_of c = call_by (number_of c) c
 -- ---- covered, in either sense
 
 to : (l : List StripCall) (i : ℕ) → CoveredBy l i → Covered (map call_of l) i
+to [] i v = absurd v
 to (c ∷ l) i (inl v) = inl (go (number_of c) v.0)
   where
     go : (n : ℕ) → n ≡ 0 → Covers (call_by n c) i
@@ -52,6 +53,7 @@ to (c ∷ l) i (inl v) = inl (go (number_of c) v.0)
 to (c ∷ l) i (inr v) = inr (to l i v)
 
 from : (l : List StripCall) (i : ℕ) → Covered (map call_of l) i → CoveredBy l i
+from [] i v = absurd v
 from (c ∷ l) i (inl v) = inl (go (number_of c) refl v)
   where
     go : (n : ℕ) → number_of c ≡ n → Covers (call_by n c) i → Accepted c × (c.asked.first ≤ i) × (i < c.asked.first + c.asked.count)
@@ -99,6 +101,7 @@ module _ (f : Frame) (readings : List ℕ) where
 
     -- a covered row is one of the frame, and its readings are there and in range: the call that covered it has tested them
     row-known : (l : List StripCall) (p q : Planes) → CalledAll Premise l p q → (i : ℕ) → CoveredBy l i → RowRead f readings i
+    row-known [] p q h i v = absurd v
     row-known (c ∷ l) p q h i (inr v) = row-known l h.0 q h.2 i v
     row-known (c ∷ l) p q h i (inl v) =
         let r = row_read (named c) readings c.asked.first c.asked.count (fits-ours c v.0 (h.1.premise v.0)) i v.1 v.2 in
@@ -172,6 +175,7 @@ module _ (f : Frame) (readings : List ℕ) where
 
   -- the readings that a covering call read are in range, and the rule and the exact form of its rows depend on no others
   near-exact : (l : List StripCall) (p q : Planes) → CalledAll (OfFrame f readings) l p q → (k : Colour) (i j : ℕ) → CoveredBy l i → Within (natural (sample f 0 readings k i j)) (exact_sample f 0 readings k i j) (printed_error k) 100
+  near-exact [] p q h k i j v = absurd v
   near-exact (c ∷ l) p q h k i j (inr v) = near-exact l h.0 q h.2 k i j v
   near-exact (c ∷ l) p q h k i j (inl v) =
       let a = c.asked.first in

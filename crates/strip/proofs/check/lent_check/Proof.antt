@@ -19,47 +19,47 @@ use Rattle.strip.proofs.check.lent_check.Tie as tie
 small : (s : tie.Start) (m : ℕ) → m ≤ s.args.frame.height → m * s.args.frame.width ≤ 4096 * 4096
 small s m h = let few : m ≤ 4096 = omega (arith, s.requires.0.low) in mul-le-mul few s.requires.0.narrow
 
-piece-rows-requires : tie.Need-piece-rows-requires
+piece-rows-requires : tie.Need-piece_rows-requires
 piece-rows-requires c κs = search rules
 
-mul-length : tie.Need-overflow-mul-length
-mul-length c = omega (arith, small c.before.before c.piece-rows.result (omega (arith, c.piece-rows.ensures)))
+mul-length : tie.Need-overflow_mul-length
+mul-length c = omega (arith, small c.before.before c.piece_rows.result (omega (arith, c.piece_rows.ensures)))
 
 -- the length that the piece shall have, as the code works it out
-wanted : (c : tie.After-piece-rows) → let a = c.before.before.args in c.piece-rows.result * a.frame.width ≡ piece_rows a.frame.height a.a a.n * a.frame.width
-wanted c = ap (λ r. r * c.before.before.args.frame.width) c.piece-rows.ensures
+wanted : (c : tie.After-piece_rows) → let a = c.before.before.args in c.piece_rows.result * a.frame.width ≡ piece_rows a.frame.height a.a a.n * a.frame.width
+wanted c = ap (λ r. r * c.before.before.args.frame.width) c.piece_rows.ensures
 
-returns : tie.Need-returns
+returns : tie.Need-returns-then-piece-length
 unfolding first_of
-returns c = rw (← wanted c.before, ne_eqb _ _ c.if1.true)
+returns c = rw (← wanted c.before, ne_eqb _ _ c.if-piece-length.true)
 
-mul-planes-misfit : tie.Need-overflow-mul-planes-misfit
+mul-planes-misfit : tie.Need-overflow_mul-n
 mul-planes-misfit c = let s = c.before.before.before in omega (arith, small s s.args.n s.requires.1)
 
 -- the piece has its length: the planes and the readings decide
-fits : (c : tie.Else1) → let a = c.before.before.before.args in
+fits : (c : tie.Else-piece-length) → let a = c.before.before.before.args in
     first_of (length_cases a.frame a.a a.n a.piece.now a.red a.green a.blue ++ range_cases a.piece.now)
     ≡ cond (planes_misfit (a.n * a.frame.width) a.red a.green a.blue) 5 (cond (any_above 4095 a.piece.now) 6 0)
 unfolding first_of
-fits c = rw (← wanted c.before, eq-eqb _ _ c.if1.false)
+fits c = rw (← wanted c.before, eq-eqb _ _ c.if-piece-length.false)
 
-planes-misfit-requires : tie.Need-planes-misfit-requires
+planes-misfit-requires : tie.Need-planes_misfit-requires
 planes-misfit-requires c κs = search rules
 
-returns-2 : tie.Need-returns-2
-returns-2 c = rw (fits c.before.before, sym c.before.planes-misfit.ensures ∙ c.if2.true)
+returns-2 : tie.Need-returns-then-planes_misfit
+returns-2 c = rw (fits c.before.before, sym c.before.planes_misfit.ensures ∙ c.if-planes_misfit.true)
 
-any-above-requires : tie.Need-any-above-requires
+any-above-requires : tie.Need-any_above-requires
 any-above-requires c κs = search rules
 
-returns-3 : tie.Need-returns-3
-returns-3 c = let e = c.before.before in rw (fits e.before.before, sym e.before.planes-misfit.ensures ∙ e.if2.false, sym c.before.any-above.ensures ∙ c.if3.true)
+returns-3 : tie.Need-returns-then-any_above
+returns-3 c = let e = c.before.before in rw (fits e.before.before, sym e.before.planes_misfit.ensures ∙ e.if-planes_misfit.false, sym c.before.any_above.ensures ∙ c.if-any_above.true)
 
-returns-4 : tie.Need-returns-4
-returns-4 c = let e = c.before.before in rw (fits e.before.before, sym e.before.planes-misfit.ensures ∙ e.if2.false, sym c.before.any-above.ensures ∙ c.if3.false)
+returns-4 : tie.Need-returns
+returns-4 c = let e = c.before.before in rw (fits e.before.before, sym e.before.planes_misfit.ensures ∙ e.if-planes_misfit.false, sym c.before.any_above.ensures ∙ c.if-any_above.false)
 
-pub lent-check-spec : {M : Type 1} → statement M
-lent-check-spec =
+pub lent_check_spec : {M : Type 1} → statement M
+lent_check_spec =
     tie.close
     (tie.spec
     piece-rows-requires

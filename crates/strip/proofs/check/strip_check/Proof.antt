@@ -14,20 +14,20 @@ use Rattle.strip.proofs.check.strip_check.Tie as tie
 abbrev named : tie.Start → List Case
 named s = named_cases s.args.entry s.args.frame s.args.a s.args.n
 
-named-check-requires : tie.Need-named-check-requires
+named-check-requires : tie.Need-named_check-named-requires
 named-check-requires c κs = search rules
 
-returns : tie.Need-returns
+returns : tie.Need-returns-then-named-ne0
 unfolding strip_number
 returns c =
-    let e = c.before.named-check.ensures in
-    e ∙ sym (sooner (named c.before.before.before) _ (λ z. omega (arith, c.if1.true, e, z)))
+    let e = c.before.named_check-named.ensures in
+    e ∙ sym (sooner (named c.before.before.before) _ (λ z. omega (arith, c.if-named-ne0.true, e, z)))
 
 -- what is named is passed
-zero : (c : tie.Else1) → first_of (named c.before.before.before) ≡ 0
-zero c = omega (arith, c.before.named-check.ensures, c.if1.false)
+zero : (c : tie.Else-named-ne0) → first_of (named c.before.before.before) ≡ 0
+zero c = omega (arith, c.before.named_check-named.ensures, c.if-named-ne0.false)
 
-lent-check-requires : tie.Need-lent-check-requires
+lent-check-requires : tie.Need-lent_check-requires
 lent-check-requires c κs =
     let a = c.before.before.before.args in
     let o = off-append (frame_cases a.frame) _ (zero c) in
@@ -35,9 +35,9 @@ lent-check-requires c κs =
     let r = rows_fit a.frame a.a a.n (off-append (rows_cases a.frame a.a a.n) _ p.1).0 in
     (frame-fits a.frame o.0, omega (arith, r.1))
 
-returns-2 : tie.Need-returns-2
+returns-2 : tie.Need-returns
 unfolding strip_number
-returns-2 c = c.lent-check.ensures ∙ sym (later (named c.before.before.before.before) _ (zero c.before))
+returns-2 c = c.lent_check.ensures ∙ sym (later (named c.before.before.before.before) _ (zero c.before))
 
-pub strip-check-spec : {M : Type 1} → statement M
-strip-check-spec = tie.close (tie.spec named-check-requires returns lent-check-requires returns-2)
+pub strip_check_spec : {M : Type 1} → statement M
+strip_check_spec = tie.close (tie.spec named-check-requires returns lent-check-requires returns-2)

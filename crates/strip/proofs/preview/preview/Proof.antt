@@ -15,41 +15,41 @@ use Rattle.strip.proofs.preview.preview.Tie as tie
 abbrev what : tie.Start → Asked
 what s = let a = s.args in asked Preview a.frame a.a a.n a.piece.now
 
-abbrev start : tie.After-strip-check → tie.Start
+abbrev start : tie.After-strip_check-number → tie.Start
 start c = c.before.before.before.before.before
 
-accepted : (c : tie.Else1) → let a = (start c.before).args in 0 ≡ strip_number (what (start c.before)) (length a.red.now) (length a.green.now) (length a.blue.now)
-accepted c = omega (arith, c.if1.false, c.before.strip-check.ensures)
+accepted : (c : tie.Else-number-ne0) → let a = (start c.before).args in 0 ≡ strip_number (what (start c.before)) (length a.red.now) (length a.green.now) (length a.blue.now)
+accepted c = omega (arith, c.if-number-ne0.false, c.before.strip_check-number.ensures)
 
-abbrev filled : tie.After-slice-known6 → tie.After-fill-narrow
+abbrev filled : tie.After-slice_known-6-1 → tie.After-fill_narrow
 filled c = c.before.before.before.before.before.before
 
-strip-check-requires : tie.Need-strip-check-requires
+strip-check-requires : tie.Need-strip_check-number-requires
 strip-check-requires c κs = search rules
 
-returns : tie.Need-returns
-returns c = keeps (what (start c.before)) _ c.before.strip-check.ensures (λ e. omega (arith, e, c.if1.true))
+returns : tie.Need-returns-then-number-ne0
+returns c = keeps (what (start c.before)) _ c.before.strip_check-number.ensures (λ e. omega (arith, e, c.if-number-ne0.true))
 
-fill-narrow-requires : tie.Need-fill-narrow-requires
+fill-narrow-requires : tie.Need-fill_narrow-requires
 fill-narrow-requires c κs =
     let e = sym (accepted c.before.before.before) in
     let w = fits _ _ _ _ e in
     ((readable _ w, w.planes), (preview-accepts _ _ _ _ _ _ _ e).0)
 
-same_length : tie.Need-same-length
+same_length : tie.Need-shape_of-red
 same_length c = search rules
 
-same-length-2 : tie.Need-same-length-2
+same-length-2 : tie.Need-shape_of-green
 same-length-2 c = search rules
 
-same-length-3 : tie.Need-same-length-3
+same-length-3 : tie.Need-shape_of-blue
 same-length-3 c = search rules
 
-returns-2 : tie.Need-returns-2
+returns-2 : tie.Need-returns
 returns-2 c =
     let f = filled c in
     let e = f.before.before.before.before in
-    fills (what (start e.before)) (three_planes _ _ _) (three_planes _ _ _) (omega (arith, e.if1.left)) (accepted e) f.fill-narrow.ensures
+    fills (what (start e.before)) (three_planes _ _ _) (three_planes _ _ _) (omega (arith, e.if-number-ne0.false)) (accepted e) f.fill_narrow.ensures
 
-pub preview-spec : {M : Type 1} → statement M
-preview-spec = tie.close (tie.spec strip-check-requires returns fill-narrow-requires same_length same-length-2 same-length-3 returns-2)
+pub preview_spec : {M : Type 1} → statement M
+preview_spec = tie.close (tie.spec strip-check-requires returns fill-narrow-requires same_length same-length-2 same-length-3 returns-2)
