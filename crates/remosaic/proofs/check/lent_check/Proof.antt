@@ -16,7 +16,7 @@ use Rattle.remosaic.proofs.NumberLaws.{rows-lent}
 use Rattle.remosaic.proofs.check.lent_check.Statement.{statement}
 use Rattle.remosaic.proofs.check.lent_check.Tie as tie
 
-mul-size : tie.Need-overflow-mul-size
+mul-size : tie.Need-overflow_mul-size
 mul-size c =
     let s = c.before.before.before.before in
     let f = s.args.frame in
@@ -24,42 +24,42 @@ mul-size c =
     let few : s.args.n ≤ 4096 = omega (arith, rows_fit f s.args.a s.args.n o.1, (frame-fits f o.0).low) in
     omega (arith, mul-le-mul few (frame-fits f o.0).narrow)
 
-planes-misfit-requires : tie.Need-planes-misfit-requires
+planes-misfit-requires : tie.Need-planes_misfit-requires
 planes-misfit-requires c κs = search rules
 
 -- 5, of the planes and of the mosaic
-abbrev start : tie.After-planes-misfit → tie.Start
+abbrev start : tie.After-planes_misfit → tie.Start
 start c = c.before.before.before.before.before
 
-abbrev planes : tie.After-planes-misfit → Bool
+abbrev planes : tie.After-planes_misfit → Bool
 planes c = let a = (start c).args in planes_misfit (a.n * a.frame.width) (length a.red.now) (length a.green.now) (length a.blue.now)
 
-abbrev mosaic : tie.After-planes-misfit → Bool
+abbrev mosaic : tie.After-planes_misfit → Bool
 mosaic c = let a = (start c).args in not (eqb a.mosaic (a.n * a.frame.width))
 
-tested : (c : tie.After-planes-misfit) → planes c || mosaic c ≡ c.planes-misfit.result || mosaic c
-tested c = ap (λ b. b || mosaic c) (sym c.planes-misfit.ensures)
+tested : (c : tie.After-planes_misfit) → planes c || mosaic c ≡ c.planes_misfit.result || mosaic c
+tested c = ap (λ b. b || mosaic c) (sym c.planes_misfit.ensures)
 
-returns : tie.Need-returns
+returns : tie.Need-returns-then-planes_misfit-mosaic
 unfolding first_of
-returns c = rw (tested c.before ∙ c.if1.true)
+returns c = rw (tested c.before ∙ c.if-planes_misfit-mosaic.true)
 
-passed : (c : tie.Else1) → planes c.before || mosaic c.before ≡ false
-passed c = tested c.before ∙ c.if1.false
+passed : (c : tie.Else-planes_misfit-mosaic) → planes c.before || mosaic c.before ≡ false
+passed c = tested c.before ∙ c.if-planes_misfit-mosaic.false
 
-rows-not-of-camera-requires : tie.Need-rows-not-of-camera-requires
+rows-not-of-camera-requires : tie.Need-rows_not_of_camera-requires
 rows-not-of-camera-requires c κs = rows-lent _ _ _ _ (start c.before).requires (neither (planes c.before) (mosaic c.before) (passed c)).0
 
-returns-2 : tie.Need-returns-2
+returns-2 : tie.Need-returns-then-rows_not_of_camera
 unfolding first_of
-returns-2 c = rw (passed c.before.before, sym c.before.rows-not-of-camera.ensures ∙ c.if2.true)
+returns-2 c = rw (passed c.before.before, sym c.before.rows_not_of_camera.ensures ∙ c.if-rows_not_of_camera.true)
 
-returns-3 : tie.Need-returns-3
+returns-3 : tie.Need-returns
 unfolding first_of
-returns-3 c = rw (passed c.before.before, sym c.before.rows-not-of-camera.ensures ∙ c.if2.false)
+returns-3 c = rw (passed c.before.before, sym c.before.rows_not_of_camera.ensures ∙ c.if-rows_not_of_camera.false)
 
-pub lent-check-spec : {M : Type 1} → statement M
-lent-check-spec =
+pub lent_check_spec : {M : Type 1} → statement M
+lent_check_spec =
     tie.close
     (tie.spec
     mul-size

@@ -9,28 +9,28 @@ use Rattle.remosaic.specs.MosaicBack.{mosaic_number}
 use Rattle.remosaic.proofs.check.mosaic_back_check.Statement.{statement}
 use Rattle.remosaic.proofs.check.mosaic_back_check.Tie as tie
 
-rows-check-requires : tie.Need-rows-check-requires
+rows-check-requires : tie.Need-rows_check-number-requires
 rows-check-requires c κs = search rules
 
-returns : tie.Need-returns
+returns : tie.Need-returns-then-number-ne0
 unfolding mosaic_number
 returns c =
-    let e = c.before.rows-check.ensures in
+    let e = c.before.rows_check-number.ensures in
     let a = c.before.before.before.before.before.args in
-    e ∙ sym (sooner (frame_cases a.frame ++ rows_cases a.frame a.a a.n) _ (λ z. c.if1.true (e ∙ z)))
+    e ∙ sym (sooner (frame_cases a.frame ++ rows_cases a.frame a.a a.n) _ (λ z. c.if-number-ne0.true (e ∙ z)))
 
 -- what is named is passed
-zero : (c : tie.Else1) → let a = c.before.before.before.before.before.args in first_of (frame_cases a.frame ++ rows_cases a.frame a.a a.n) ≡ 0
-zero c = sym c.before.rows-check.ensures ∙ c.if1.false
+zero : (c : tie.Else-number-ne0) → let a = c.before.before.before.before.before.args in first_of (frame_cases a.frame ++ rows_cases a.frame a.a a.n) ≡ 0
+zero c = sym c.before.rows_check-number.ensures ∙ c.if-number-ne0.false
 
-lent-check-requires : tie.Need-lent-check-requires
+lent-check-requires : tie.Need-lent_check-requires
 lent-check-requires c κs = zero c
 
-returns-2 : tie.Need-returns-2
+returns-2 : tie.Need-returns
 unfolding mosaic_number
 returns-2 c =
     let a = c.before.before.before.before.before.before.args in
-    c.lent-check.ensures ∙ sym (later (frame_cases a.frame ++ rows_cases a.frame a.a a.n) _ (zero c.before))
+    c.lent_check.ensures ∙ sym (later (frame_cases a.frame ++ rows_cases a.frame a.a a.n) _ (zero c.before))
 
-pub mosaic-back-check-spec : {M : Type 1} → statement M
-mosaic-back-check-spec = tie.close (tie.spec rows-check-requires returns lent-check-requires returns-2)
+pub mosaic_back_check_spec : {M : Type 1} → statement M
+mosaic_back_check_spec = tie.close (tie.spec rows-check-requires returns lent-check-requires returns-2)

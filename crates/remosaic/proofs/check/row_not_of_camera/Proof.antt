@@ -13,53 +13,53 @@ use Rattle.remosaic.specs.Rows.{observed_in}
 use Rattle.remosaic.proofs.check.row_not_of_camera.Statement.{statement}
 use Rattle.remosaic.proofs.check.row_not_of_camera.Tie as tie
 
-abbrev invariant-loop : tie.invariant-loop
+abbrev invariant-loop : tie.invariant-loop-j
 invariant-loop green other odd found₀ j₀ found j = (j ≤ length green) × (found ≡ any not_of_camera (table (observed_in odd green other) j))
 
-abbrev decreases-loop : tie.decreases-loop
+abbrev decreases-loop : tie.decreases-loop-j
 decreases-loop green other odd found₀ j₀ found j = length green - j
 
-loop-holds : tie.Need-loop-init invariant-loop decreases-loop
+loop-holds : tie.Need-loop-j-init invariant-loop decreases-loop
 unfolding any table
 loop-holds c = (omega arith, refl)
 
-mul-own-sample : tie.Need-overflow-mul-own-sample invariant-loop decreases-loop
+mul-own-sample : tie.Need-offset_bounds-green-j invariant-loop decreases-loop
 mul-own-sample c = omega arith
 
-shared-slice-read-own-sample : tie.Need-shared-slice-read-own-sample invariant-loop decreases-loop
+shared-slice-read-own-sample : tie.Need-bounds-green-j invariant-loop decreases-loop
 shared-slice-read-own-sample c = omega arith
 
-mul-own-sample-2 : tie.Need-overflow-mul-own-sample-2 invariant-loop decreases-loop
+mul-own-sample-2 : tie.Need-offset_bounds-other-j invariant-loop decreases-loop
 mul-own-sample-2 c = omega arith
 
-shared-slice-read-own-sample-2 : tie.Need-shared-slice-read-own-sample-2 invariant-loop decreases-loop
+shared-slice-read-own-sample-2 : tie.Need-bounds-other-j invariant-loop decreases-loop
 shared-slice-read-own-sample-2 c = omega arith
 
-own-sample-requires : tie.Need-own-sample-requires invariant-loop decreases-loop
+own-sample-requires : tie.Need-own_sample-requires invariant-loop decreases-loop
 own-sample-requires c κs = search rules
 
-not-of-camera-requires : tie.Need-not-of-camera-requires invariant-loop decreases-loop
+not-of-camera-requires : tie.Need-not_of_camera-found-requires invariant-loop decreases-loop
 not-of-camera-requires c κs = search rules
 
-add-j : tie.Need-overflow-add-j invariant-loop decreases-loop
+add-j : tie.Need-overflow_add-j invariant-loop decreases-loop
 add-j c = omega arith
 
-loop-less : tie.Need-loop-smaller invariant-loop decreases-loop
+loop-less : tie.Need-loop-j-smaller invariant-loop decreases-loop
 loop-less c = omega arith
 
-loop-again : tie.Need-loop-preserved invariant-loop decreases-loop
+loop-again : tie.Need-loop-j-preserved invariant-loop decreases-loop
 loop-again c =
-    let l = c.before.before.before.before.before.loop in
-    (omega arith, ap₂ (λ a b. a || b) l.invariant.1 (c.not-of-camera.ensures ∙ ap not_of_camera c.before.own-sample.ensures) ∙ sym (any-table not_of_camera _ l.j))
+    let l = c.before.before.before.before.before.loop-j in
+    (omega arith, ap₂ (λ a b. a || b) l.invariant.1 (c.not_of_camera-found.ensures ∙ ap not_of_camera c.before.own_sample.ensures) ∙ sym (any-table not_of_camera _ l.j))
 
 returns : tie.Need-returns invariant-loop decreases-loop
 returns c =
-    let l = c.before.loop in
+    let l = c.before.loop-j in
     let e : l.j ≡ length c.before.before.before.before.args.green.now = omega arith in
     rw (← e) l.invariant.1
 
-pub row-not-of-camera-spec : {M : Type 1} → statement M
-row-not-of-camera-spec =
+pub row_not_of_camera_spec : {M : Type 1} → statement M
+row_not_of_camera_spec =
     tie.close
     (tie.spec
     invariant-loop

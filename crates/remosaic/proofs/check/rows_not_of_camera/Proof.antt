@@ -17,101 +17,101 @@ use Rattle.remosaic.proofs.RowLaws.{row-lent, row_ends, along-row}
 use Rattle.remosaic.proofs.check.rows_not_of_camera.Statement.{statement}
 use Rattle.remosaic.proofs.check.rows_not_of_camera.Tie as tie
 
-abbrev invariant-loop : tie.invariant-loop
+abbrev invariant-loop : tie.invariant-loop-i
 invariant-loop frame a n red green blue w i₀ i = (i ≤ n) × (any not_of_camera (observed_rows frame a i (three_planes red green blue)) ≡ false)
 
-abbrev decreases-loop : tie.decreases-loop
+abbrev decreases-loop : tie.decreases-loop-i
 decreases-loop frame a n red green blue w i₀ i = n - i
 
-loop-holds : tie.Need-loop-init invariant-loop decreases-loop
+loop-holds : tie.Need-loop-i-init invariant-loop decreases-loop
 unfolding any joined
 loop-holds c = (omega arith, refl)
 
-module _ (c : tie.In-loop invariant-loop decreases-loop) where
+module _ (c : tie.In-loop-i invariant-loop decreases-loop) where
   abbrev start : tie.Start invariant-loop decreases-loop
   start = c.before.before.before.before.before
 
-  ends : (c.before.loop.i * start.args.frame.width + start.args.frame.width ≤ start.args.n * start.args.frame.width) × (start.args.n * start.args.frame.width ≤ 4096 * 4096)
-  ends = row_ends start.pre c.before.loop.i c.loop-test.true
+  ends : (c.before.loop-i.i * start.args.frame.width + start.args.frame.width ≤ start.args.n * start.args.frame.width) × (start.args.n * start.args.frame.width ≤ 4096 * 4096)
+  ends = row_ends start.requires c.before.loop-i.i c.loop-i-test.true
 
-partner-row-requires : tie.Need-partner-row-requires invariant-loop decreases-loop
-partner-row-requires c κs = row-lent (start c).requires c.before.loop.i c.loop-test.true
+partner-row-requires : tie.Need-partner_row-other-requires invariant-loop decreases-loop
+partner-row-requires c κs = row-lent (start c).requires c.before.loop-i.i c.loop-i-test.true
 
-add-starts-green : tie.Need-overflow-add-starts-green invariant-loop decreases-loop
-add-starts-green c = let k = c.before in omega (arith, (row-lent (start k).requires k.before.loop.i k.loop-test.true).1, (start k).requires.frame.low)
+add-starts-green : tie.Need-overflow_add-a invariant-loop decreases-loop
+add-starts-green c = let k = c.before in omega (arith, (row-lent (start k).requires k.before.loop-i.i k.loop-i-test.true).1, (start k).requires.frame.low)
 
-starts-green-requires : tie.Need-starts-green-requires invariant-loop decreases-loop
+starts-green-requires : tie.Need-starts_green-odd-requires invariant-loop decreases-loop
 starts-green-requires c κs = search rules
 
-mul_at : tie.Need-overflow-mul-at invariant-loop decreases-loop
+mul_at : tie.Need-overflow_mul-at invariant-loop decreases-loop
 mul_at c = omega (arith, ends c.before.before)
 
-add-end : tie.Need-overflow-add-end invariant-loop decreases-loop
+add-end : tie.Need-overflow_add-end invariant-loop decreases-loop
 add-end c = omega (arith, ends c.before.before)
 
-mul-row-not-of-camera : tie.Need-overflow-mul-row-not-of-camera invariant-loop decreases-loop
+mul-row-not-of-camera : tie.Need-offset_bounds-green-at invariant-loop decreases-loop
 mul-row-not-of-camera c = omega (arith, ends c.before.before)
 
-sub-row-not-of-camera : tie.Need-overflow-sub-row-not-of-camera invariant-loop decreases-loop
+sub-row-not-of-camera : tie.Need-slice_bounds-row_not_of_camera-count invariant-loop decreases-loop
 sub-row-not-of-camera c = omega arith
 
-part-row-not-of-camera-start : tie.Need-slice-bounds-row-not-of-camera-start invariant-loop decreases-loop
+part-row-not-of-camera-start : tie.Need-slice_bounds-row_not_of_camera-start invariant-loop decreases-loop
 part-row-not-of-camera-start c = omega arith
 
-part-row-not-of-camera-end : tie.Need-slice-bounds-row-not-of-camera-end invariant-loop decreases-loop
+part-row-not-of-camera-end : tie.Need-slice_bounds-row_not_of_camera-end invariant-loop decreases-loop
 part-row-not-of-camera-end c = let k = c.before.before in omega (arith, ends k, (start k).requires.long Green)
 
 -- the row's samples
-row : (c : tie.After-starts-green invariant-loop decreases-loop) →
+row : (c : tie.After-starts_green-odd invariant-loop decreases-loop) →
     let k = c.before.before in
     let a = (start k).args in
     let w = a.frame.width in
-    let i = k.before.loop.i in
-    let odd = c.starts-green.result in
+    let i = k.before.loop-i.i in
+    let odd = c.starts_green-odd.result in
     let green = take (i * w + w - i * w) (drop (i * w) a.green.now) in
-    let other = c.before.partner-row.result.now in
+    let other = c.before.partner_row-other.result.now in
     (odd < 2) × (length green ≡ w) × (length other ≡ length green)
     × (table (observed_in odd green other) (length green) ≡ table (observed a.frame a.a (three_planes a.red.now a.green.now a.blue.now) i) w)
 row c =
     let k = c.before.before in
     let a = (start k).args in
-    let i = k.before.loop.i in
-    along-row (start k).requires i k.loop-test.true (λ x. x) c.starts-green.ensures (omega arith) (row_is a.frame.width i a.green.now refl) c.before.partner-row.ensures
+    let i = k.before.loop-i.i in
+    along-row (start k).requires i k.loop-i-test.true (λ x. x) c.starts_green-odd.ensures (omega arith) (row_is a.frame.width i a.green.now refl) c.before.partner_row-other.ensures
 
-row-not-of-camera-requires : tie.Need-row-not-of-camera-requires invariant-loop decreases-loop
-row-not-of-camera-requires c κs = let r = row c.before in (r.0, omega (arith, r.1, (start c.before.before.before).pre.frame.narrow), r.2)
+row-not-of-camera-requires : tie.Need-row_not_of_camera-requires invariant-loop decreases-loop
+row-not-of-camera-requires c κs = let r = row c.before in (r.0, omega (arith, r.1, (start c.before.before.before).requires.frame.narrow), r.2)
 
 -- what the call says of them
-says : (c : tie.After-row-not-of-camera invariant-loop decreases-loop) →
+says : (c : tie.After-row_not_of_camera invariant-loop decreases-loop) →
     let k = c.before.before.before.before in
     let a = (start k).args in
-    any not_of_camera (table (observed a.frame a.a (three_planes a.red.now a.green.now a.blue.now) k.before.loop.i) a.frame.width) ≡ c.row-not-of-camera.result
-says c = sym (c.row-not-of-camera.ensures ∙ ap (any not_of_camera) (row c.before.before).3)
+    any not_of_camera (table (observed a.frame a.a (three_planes a.red.now a.green.now a.blue.now) k.before.loop-i.i) a.frame.width) ≡ c.row_not_of_camera.result
+says c = sym (c.row_not_of_camera.ensures ∙ ap (any not_of_camera) (row c.before.before).3)
 
-returns : tie.Need-returns invariant-loop decreases-loop
+returns : tie.Need-returns-then-row_not_of_camera invariant-loop decreases-loop
 returns c =
     let k = c.before.before.before.before.before in
-    sym (joined-stop not_of_camera _ k.before.loop.i (start k).args.n k.loop-test.true (says c.before ∙ c.if1.true))
+    sym (joined-stop not_of_camera _ k.before.loop-i.i (start k).args.n k.loop-i-test.true (says c.before ∙ c.if-row_not_of_camera.true))
 
-add-i : tie.Need-overflow-add-i invariant-loop decreases-loop
+add-i : tie.Need-overflow_add-i invariant-loop decreases-loop
 add-i c = omega arith
 
-loop-less : tie.Need-loop-smaller invariant-loop decreases-loop
+loop-less : tie.Need-loop-i-smaller invariant-loop decreases-loop
 loop-less c = omega arith
 
-loop-again : tie.Need-loop-preserved invariant-loop decreases-loop
+loop-again : tie.Need-loop-i-preserved invariant-loop decreases-loop
 loop-again c =
-    let l = c.before.before.before.before.before.before.loop in
-    (omega arith, any-joined not_of_camera _ l.i ∙ ap₂ (λ x y. x || y) l.invariant.1 (says c.before ∙ c.if1.false))
+    let l = c.before.before.before.before.before.before.loop-i in
+    (omega arith, any-joined not_of_camera _ l.i ∙ ap₂ (λ x y. x || y) l.invariant.1 (says c.before ∙ c.if-row_not_of_camera.false))
 
-returns-2 : tie.Need-returns-2 invariant-loop decreases-loop
+returns-2 : tie.Need-returns invariant-loop decreases-loop
 returns-2 c =
-    let l = c.before.loop in
+    let l = c.before.loop-i in
     let e : l.i ≡ c.before.before.before.before.before.args.n = omega arith in
     rw (← e) (sym l.invariant.1)
 
-pub rows-not-of-camera-spec : {M : Type 1} → statement M
-rows-not-of-camera-spec =
+pub rows_not_of_camera_spec : {M : Type 1} → statement M
+rows_not_of_camera_spec =
     tie.close
     (tie.spec
     invariant-loop

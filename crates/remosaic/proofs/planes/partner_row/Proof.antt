@@ -5,74 +5,74 @@ use Rattle.lists.proofs.PartLaws.{row_is}
 use Rattle.remosaic.proofs.planes.partner_row.Statement.{statement}
 use Rattle.remosaic.proofs.planes.partner_row.Tie as tie
 
-mul_at : tie.Need-overflow-mul-at
+mul_at : tie.Need-overflow_mul-at
 mul_at c = search rules
 
-add-end : tie.Need-overflow-add-end
+add-end : tie.Need-overflow_add-end
 add-end c = search rules
 
-add-partner : tie.Need-overflow-add-partner
+add-partner : tie.Need-overflow_add-a
 add-partner c = search rules
 
-partner-requires : tie.Need-partner-requires
+partner-requires : tie.Need-partner-colour-requires
 partner-requires c κs = search rules
 
-enum_told : tie.Need-enum-told
+enum_told : tie.Need-enum_told-1
 enum_told c = search rules
 
-mul-result : tie.Need-overflow-mul-result
+mul-result : tie.Need-offset_bounds-red-at
 mul-result c = search rules
 
-sub-result : tie.Need-overflow-sub-result
+sub-result : tie.Need-slice_bounds-result-count
 sub-result c = search rules
 
-part-result-start : tie.Need-slice-bounds-result-start
+part-result-start : tie.Need-slice_bounds-result-start
 part-result-start c = search rules
 
-part-result-end : tie.Need-slice-bounds-result-end
+part-result-end : tie.Need-slice_bounds-result-end
 part-result-end c = search rules
 
-enum-told-2 : tie.Need-enum-told-2
+enum-told-2 : tie.Need-enum_told-in-Green
 enum-told-2 c = search rules
 
-mul-result-2 : tie.Need-overflow-mul-result-2
+mul-result-2 : tie.Need-offset_bounds-red-at-in-Green
 mul-result-2 c = search rules
 
-sub-result-2 : tie.Need-overflow-sub-result-2
+sub-result-2 : tie.Need-slice_bounds-result-count-in-Green
 sub-result-2 c = search rules
 
-part-result-start-2 : tie.Need-slice-bounds-result-start-2
+part-result-start-2 : tie.Need-slice_bounds-result-start-in-Green
 part-result-start-2 c = search rules
 
-part-result-end-2 : tie.Need-slice-bounds-result-end-2
+part-result-end-2 : tie.Need-slice_bounds-result-end-in-Green
 part-result-end-2 c = search rules
 
-enum-told-3 : tie.Need-enum-told-3
+enum-told-3 : tie.Need-enum_told-in-Blue
 enum-told-3 c = search rules
 
-mul-result-3 : tie.Need-overflow-mul-result-3
+mul-result-3 : tie.Need-offset_bounds-blue-at
 mul-result-3 c = search rules
 
-sub-result-3 : tie.Need-overflow-sub-result-3
+sub-result-3 : tie.Need-slice_bounds-result-count-in-Blue
 sub-result-3 c = search rules
 
-part-result-start-3 : tie.Need-slice-bounds-result-start-3
+part-result-start-3 : tie.Need-slice_bounds-result-start-in-Blue
 part-result-start-3 c = search rules
 
-part-result-end-3 : tie.Need-slice-bounds-result-end-3
+part-result-end-3 : tie.Need-slice_bounds-result-end-in-Blue
 part-result-end-3 c = search rules
 
-returns : tie.Need-returns
-returns c = rw (← c.before.before.before.partner.ensures, c.before.enum_told.given.1) (row_is _ _ _ refl)
+returns : tie.Need-returns-in-Red
+returns c = rw (← c.before.before.partner-colour.ensures, c.before.in-Red.is) (row_is _ _ _ refl)
 
-returns-2 : tie.Need-returns-2
-returns-2 c = rw (← c.before.before.before.partner.ensures, c.before.enum-told2.given.1) (row_is _ _ _ refl)
+returns-2 : tie.Need-returns-in-Green
+returns-2 c = rw (← c.before.before.partner-colour.ensures, c.before.in-Green.is) (row_is _ _ _ refl)
 
-returns-3 : tie.Need-returns-3
-returns-3 c = rw (← c.before.before.before.partner.ensures, c.before.enum-told3.given.1) (row_is _ _ _ refl)
+returns-3 : tie.Need-returns-in-Blue
+returns-3 c = rw (← c.before.before.partner-colour.ensures, c.before.in-Blue.is) (row_is _ _ _ refl)
 
-pub partner-row-spec : {M : Type 1} → statement M
-partner-row-spec =
+pub partner_row_spec : {M : Type 1} → statement M
+partner_row_spec =
     tie.close
     (tie.spec
     mul_at

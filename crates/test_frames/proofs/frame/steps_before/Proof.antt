@@ -3,11 +3,11 @@ use native.Mathlib.Omega.{arith}
 use Rattle.test_frames.proofs.frame.steps_before.Statement.{statement}
 use Rattle.test_frames.proofs.frame.steps_before.Tie as tie
 
-mul-result : tie.Need-overflow-mul-result
+mul-result : tie.Need-overflow_mul-result
 mul-result c = omega arith
 
 returns : tie.Need-returns
 returns c = omega arith
 
-pub steps-before-spec : {M : Type 1} → statement M
-steps-before-spec = tie.close (tie.spec mul-result returns)
+pub steps_before_spec : {M : Type 1} → statement M
+steps_before_spec = tie.close (tie.spec mul-result returns)

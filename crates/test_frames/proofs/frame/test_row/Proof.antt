@@ -13,23 +13,23 @@ use Rattle.test_frames.proofs.NumberLaws.{RowFits, row_fits}
 use Rattle.test_frames.proofs.frame.test_row.Statement.{statement}
 use Rattle.test_frames.proofs.frame.test_row.Tie as tie
 
-row-check-requires : tie.Need-row-check-requires
+row-check-requires : tie.Need-row_check-number-requires
 row-check-requires c κs = search rules
 
-returns : tie.Need-returns
-returns c = refuses c.before.row-check.ensures (λ z. omega (arith, z, c.if1.true))
+returns : tie.Need-returns-then-number-ne0
+returns c = refuses c.before.row_check-number.ensures (λ z. omega (arith, z, c.if-number-ne0.true))
 
 -- where the call is accepted
-abbrev start : tie.Else1 → tie.Start
+abbrev start : tie.Else-number-ne0 → tie.Start
 start c = c.before.before.before
 
-zero : (c : tie.Else1) → let a = (start c).args in 0 ≡ row_number a.width a.height a.row (length a.out.now)
-zero c = let accepted : c.before.row-check.result ≡ 0 = omega (arith, c.if1.false) in sym accepted ∙ c.before.row-check.ensures
+zero : (c : tie.Else-number-ne0) → let a = (start c).args in 0 ≡ row_number a.width a.height a.row (length a.out.now)
+zero c = let accepted : c.before.row_check-number.result ≡ 0 = omega (arith, c.if-number-ne0.false) in sym accepted ∙ c.before.row_check-number.ensures
 
-fitting : (c : tie.Else1) → let a = (start c).args in RowFits a.width a.height a.row (length a.out.now)
+fitting : (c : tie.Else-number-ne0) → let a = (start c).args in RowFits a.width a.height a.row (length a.out.now)
 fitting c = row_fits _ _ _ _ (sym (zero c))
 
-steps-before-requires : tie.Need-steps-before-requires
+steps-before-requires : tie.Need-steps_before-requires
 steps-before-requires c κs =
     let f = fitting c in
     let inside : (start c).args.row ≤ 4096 = omega (arith, f.inside, f.low) in
@@ -41,18 +41,18 @@ jump-requires c κs = search rules
 walk-requires : tie.Need-walk-requires
 walk-requires c κs = search rules
 
-same_length : tie.Need-same-length
+same_length : tie.Need-shape_of-out
 same_length c = search rules
 
-returns-2 : tie.Need-returns-2
+returns-2 : tie.Need-returns
 returns-2 c =
     let w = c.before.before in
     let j = w.before.before in
     let p = j.before in
     let f = fitting p.before in
     let a = (start p.before).args in
-    let state = j.jump.ensures.0 ∙ ap (state_after a.seed) p.steps-before.ensures in
+    let state = j.jump.ensures.0 ∙ ap (state_after a.seed) p.steps_before.ensures in
     accepts (zero p.before) (w.walk.ensures ∙ ap₂ readings_after state f.long ∙ sym (row_is a.seed a.width a.height a.row f.inside))
 
-pub test-row-spec : {M : Type 1} → statement M
-test-row-spec = tie.close (tie.spec row-check-requires returns steps-before-requires jump-requires walk-requires same_length returns-2)
+pub test_row_spec : {M : Type 1} → statement M
+test_row_spec = tie.close (tie.spec row-check-requires returns steps-before-requires jump-requires walk-requires same_length returns-2)

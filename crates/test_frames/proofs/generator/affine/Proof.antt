@@ -17,21 +17,21 @@ wide-requires c κs = search rules
 wide-requires-2 : tie.Need-wide-requires-2
 wide-requires-2 c κs = search rules
 
-mul-result : tie.Need-overflow-mul-result
-mul-result c = omega (arith, product c.before.wide.result c.wide2.result (omega arith) (omega arith))
+mul-result : tie.Need-overflow_mul-result
+mul-result c = omega (arith, product c.before.wide.result c.wide-2.result (omega arith) (omega arith))
 
 wide-requires-3 : tie.Need-wide-requires-3
 wide-requires-3 c κs = search rules
 
-add-result : tie.Need-overflow-add-result
-add-result c = omega (arith, product c.before.before.wide.result c.before.wide2.result (omega arith) (omega arith))
+add-result : tie.Need-overflow_add-result
+add-result c = omega (arith, product c.before.before.wide.result c.before.wide-2.result (omega arith) (omega arith))
 
-cast-result : tie.Need-overflow-cast-result
+cast-result : tie.Need-overflow_cast-result
 cast-result c = search rules
 
 returns : tie.Need-returns
 unfolding affine
-returns c = rw (c.before.before.wide.ensures, c.before.wide2.ensures, c.wide3.ensures)
+returns c = rw (c.before.before.wide.ensures, c.before.wide-2.ensures, c.wide-3.ensures)
 
-pub affine-spec : {M : Type 1} → statement M
-affine-spec = tie.close (tie.spec wide-requires wide-requires-2 mul-result wide-requires-3 add-result cast-result returns)
+pub affine_spec : {M : Type 1} → statement M
+affine_spec = tie.close (tie.spec wide-requires wide-requires-2 mul-result wide-requires-3 add-result cast-result returns)

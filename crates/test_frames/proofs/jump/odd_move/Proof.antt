@@ -7,11 +7,11 @@ use Rattle.test_frames.proofs.jump.odd_move.Tie as tie
 affine-requires : tie.Need-affine-requires
 affine-requires c κs = search rules
 
-returns : tie.Need-returns
-returns c = rw (eq-eqb _ 1 c.before.if1.true) c.affine.ensures
+returns : tie.Need-returns-then-r-eq1
+returns c = rw (eq-eqb _ 1 c.before.if-r-eq1.true) c.affine.ensures
 
-returns-2 : tie.Need-returns-2
-returns-2 c = rw (ne_eqb _ 1 c.if1.false)
+returns-2 : tie.Need-returns
+returns-2 c = rw (ne_eqb _ 1 c.if-r-eq1.false)
 
-pub odd-move-spec : {M : Type 1} → statement M
-odd-move-spec = tie.close (tie.spec affine-requires returns returns-2)
+pub odd_move_spec : {M : Type 1} → statement M
+odd_move_spec = tie.close (tie.spec affine-requires returns returns-2)
