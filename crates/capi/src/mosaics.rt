@@ -8,8 +8,7 @@ use remosaic::back::mosaic_back;
 use remosaic::check::mosaic_back_check;
 
 // The number of a call that gives the mosaic back into one of this length: 0, or its refusal.
-#[unsafe(no_mangle)]
-pub extern "C" fn rokzimp_mosaic_back_check<'a>(
+pub fn rokzimp_mosaic_back_check<'a>(
     width: usize,
     height: usize,
     layout: u8,
@@ -27,8 +26,7 @@ pub extern "C" fn rokzimp_mosaic_back_check<'a>(
 }
 
 // The readings of rows a to a + n - 1, from the three planes of these rows.
-#[unsafe(no_mangle)]
-pub extern "C" fn rokzimp_mosaic_back<'a>(
+pub fn rokzimp_mosaic_back<'a>(
     width: usize,
     height: usize,
     layout: u8,

@@ -10,8 +10,7 @@ use strip::entry::Entry;
 use strip::preview::preview;
 
 // The number of a preview call that names no smoothing, and is lent planes of these lengths: 0, or its refusal.
-#[unsafe(no_mangle)]
-pub extern "C" fn rokzimp_preview_check(
+pub fn rokzimp_preview_check(
     width: usize,
     height: usize,
     layout: u8,
@@ -29,8 +28,7 @@ pub extern "C" fn rokzimp_preview_check(
 }
 
 // Rows a to a + n - 1 of the three planes, at most 64 of at most 1024 columns, with no smoothing named.
-#[unsafe(no_mangle)]
-pub extern "C" fn rokzimp_preview(
+pub fn rokzimp_preview(
     width: usize,
     height: usize,
     layout: u8,
@@ -50,8 +48,7 @@ pub extern "C" fn rokzimp_preview(
 }
 
 // The same, with a smoothing that is named.
-#[unsafe(no_mangle)]
-pub extern "C" fn rokzimp_preview_smoothed_check(
+pub fn rokzimp_preview_smoothed_check(
     width: usize,
     height: usize,
     layout: u8,
@@ -69,8 +66,7 @@ pub extern "C" fn rokzimp_preview_smoothed_check(
     strip_check(Entry::Preview, named, a, n, piece, red, green, blue)
 }
 
-#[unsafe(no_mangle)]
-pub extern "C" fn rokzimp_preview_smoothed(
+pub fn rokzimp_preview_smoothed(
     width: usize,
     height: usize,
     layout: u8,

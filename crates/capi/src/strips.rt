@@ -10,8 +10,7 @@ use strip::entry::Entry;
 use strip::strip::strip;
 
 // The number of a strip call that names no smoothing, and is lent planes of these lengths: 0, or its refusal.
-#[unsafe(no_mangle)]
-pub extern "C" fn rokzimp_strip_check(
+pub fn rokzimp_strip_check(
     width: usize,
     height: usize,
     layout: u8,
@@ -29,8 +28,7 @@ pub extern "C" fn rokzimp_strip_check(
 }
 
 // Rows a to a + n - 1 of the three planes, with no smoothing named.
-#[unsafe(no_mangle)]
-pub extern "C" fn rokzimp_strip(
+pub fn rokzimp_strip(
     width: usize,
     height: usize,
     layout: u8,
@@ -50,8 +48,7 @@ pub extern "C" fn rokzimp_strip(
 }
 
 // The same, with a smoothing that is named.
-#[unsafe(no_mangle)]
-pub extern "C" fn rokzimp_strip_smoothed_check(
+pub fn rokzimp_strip_smoothed_check(
     width: usize,
     height: usize,
     layout: u8,
@@ -69,8 +66,7 @@ pub extern "C" fn rokzimp_strip_smoothed_check(
     strip_check(Entry::FullSize, frame, a, n, piece, red, green, blue)
 }
 
-#[unsafe(no_mangle)]
-pub extern "C" fn rokzimp_strip_smoothed(
+pub fn rokzimp_strip_smoothed(
     width: usize,
     height: usize,
     layout: u8,

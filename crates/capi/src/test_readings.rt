@@ -9,8 +9,7 @@ use test_frames::frame::{test_frame, test_row};
 use test_frames::jump::jump;
 
 // The test frame of a seed.
-#[unsafe(no_mangle)]
-pub extern "C" fn rokzimp_test_frame(
+pub fn rokzimp_test_frame(
     seed: u32,
     width: usize,
     height: usize,
@@ -22,8 +21,7 @@ pub extern "C" fn rokzimp_test_frame(
 }
 
 // One row of it.
-#[unsafe(no_mangle)]
-pub extern "C" fn rokzimp_test_row(
+pub fn rokzimp_test_row(
     seed: u32,
     width: usize,
     height: usize,
@@ -36,8 +34,7 @@ pub extern "C" fn rokzimp_test_row(
 }
 
 // The state after so many steps.
-#[unsafe(no_mangle)]
-pub extern "C" fn rokzimp_jump(state: u32, steps: u64) -> u32
+pub fn rokzimp_jump(state: u32, steps: u64) -> u32
     ensures { (result ≡ state_after state steps) × (result ≡ jumped state steps) }
 {
     jump(state, steps)

@@ -11,16 +11,14 @@ use bayer::frame::Frame;
 use bayer::view::{partner_view, partner_view_check, row_view, row_view_check};
 
 // The number of a row view: 0, or its refusal.
-#[unsafe(no_mangle)]
-pub extern "C" fn rokzimp_row_view_check(plane: &[u16], width: usize, row: usize) -> u32
+pub fn rokzimp_row_view_check(plane: &[u16], width: usize, row: usize) -> u32
     ensures { result ≡ row_view_number (length plane.now) width row }
 {
     row_view_check(plane, width, row)
 }
 
 // Where the row starts in the plane; 0 where the view is refused.
-#[unsafe(no_mangle)]
-pub extern "C" fn rokzimp_row_view_start(plane: &[u16], width: usize, row: usize) -> usize
+pub fn rokzimp_row_view_start(plane: &[u16], width: usize, row: usize) -> usize
     ensures { result ≡ shown_from (row_view_number (length plane.now) width row) (row * width) }
 {
     if row_view_check(plane, width, row) != 0 {
@@ -30,16 +28,14 @@ pub extern "C" fn rokzimp_row_view_start(plane: &[u16], width: usize, row: usize
 }
 
 // How long the view is; 0 where it is refused.
-#[unsafe(no_mangle)]
-pub extern "C" fn rokzimp_row_view_length(plane: &[u16], width: usize, row: usize) -> usize
+pub fn rokzimp_row_view_length(plane: &[u16], width: usize, row: usize) -> usize
     ensures { result ≡ length (shown (row_view_number (length plane.now) width row) (row_of width row plane.now)) }
 {
     row_view(plane, width, row).len()
 }
 
 // The number of a partner view: 0, or its refusal.
-#[unsafe(no_mangle)]
-pub extern "C" fn rokzimp_partner_view_check(
+pub fn rokzimp_partner_view_check(
     red: &[u16],
     blue: &[u16],
     width: usize,
@@ -53,8 +49,7 @@ pub extern "C" fn rokzimp_partner_view_check(
 }
 
 // The plane that a partner view shows: 0 for red, 2 for blue.
-#[unsafe(no_mangle)]
-pub extern "C" fn rokzimp_partner_view_plane(layout: u8, row: usize) -> u32
+pub fn rokzimp_partner_view_plane(layout: u8, row: usize) -> u32
     ensures { result ≡ plane_number (partner layout row) }
 {
     let colour = partner(layout, row);
@@ -66,8 +61,7 @@ pub extern "C" fn rokzimp_partner_view_plane(layout: u8, row: usize) -> u32
 }
 
 // Where the row starts in that plane; 0 where the view is refused.
-#[unsafe(no_mangle)]
-pub extern "C" fn rokzimp_partner_view_start(
+pub fn rokzimp_partner_view_start(
     red: &[u16],
     blue: &[u16],
     width: usize,
@@ -84,8 +78,7 @@ pub extern "C" fn rokzimp_partner_view_start(
 }
 
 // How long the view is; 0 where it is refused.
-#[unsafe(no_mangle)]
-pub extern "C" fn rokzimp_partner_view_length<'a>(
+pub fn rokzimp_partner_view_length<'a>(
     red: &'a [u16],
     blue: &'a [u16],
     width: usize,

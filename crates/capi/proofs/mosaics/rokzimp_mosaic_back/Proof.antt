@@ -6,13 +6,13 @@ use Rattle.remosaic.specs.MosaicBack.{MosaicPromise}
 use Rattle.capi.proofs.mosaics.rokzimp_mosaic_back.Statement.{statement}
 use Rattle.capi.proofs.mosaics.rokzimp_mosaic_back.Tie as tie
 
-new-requires : tie.Need-new-requires
+new-requires : tie.Need-new-frame-requires
 new-requires c κs = search rules
 
-mosaic-back-requires : tie.Need-mosaic-back-requires
+mosaic-back-requires : tie.Need-mosaic_back-requires
 mosaic-back-requires c κs = search rules
 
-same_length : tie.Need-same-length
+same_length : tie.Need-shape_of-mosaic
 same_length c = search rules
 
 returns : tie.Need-returns
@@ -20,8 +20,8 @@ returns c =
     let s = c.before.before in
     let a = s.before.before.before.before.before.before.before.args in
     subst
-    (λ f. MosaicPromise f a.a a.n (three_planes a.red.now a.green.now a.blue.now) a.mosaic.now s.mosaic-back.result s.mosaic-back.new.1.1.1.1.1.1.0)
-    s.before.before.new.ensures s.mosaic-back.ensures
+    (λ f. MosaicPromise f a.a a.n (three_planes a.red.now a.green.now a.blue.now) a.mosaic.now s.mosaic_back.result s.mosaic_back.new.mosaic)
+    s.before.before.new-frame.ensures s.mosaic_back.ensures
 
-pub rokzimp-mosaic-back-spec : {M : Type 1} → statement M
-rokzimp-mosaic-back-spec = tie.close (tie.spec new-requires mosaic-back-requires same_length returns)
+pub rokzimp_mosaic_back_spec : {M : Type 1} → statement M
+rokzimp_mosaic_back_spec = tie.close (tie.spec new-requires mosaic-back-requires same_length returns)

@@ -8,26 +8,26 @@ use Rattle.capi.proofs.strips.rokzimp_strip_smoothed.Statement.{statement}
 use Rattle.capi.proofs.strips.rokzimp_strip_smoothed.Tie as tie
 
 -- the frame has the smoothing that is named
-named : (c : tie.After-smoothed) → let a = c.before.before.before.before.before.args in c.smoothed.result ≡ smoothed a.width a.height a.layout a.smoothing
-named c = c.smoothed.ensures ∙ same-frame _ refl refl (omega arith)
+named : (c : tie.After-smoothed-named) → let a = c.before.before.before.before.before.args in c.smoothed-named.result ≡ smoothed a.width a.height a.layout a.smoothing
+named c = c.smoothed-named.ensures ∙ same-frame _ refl refl (omega arith)
 
-smoothed-requires : tie.Need-smoothed-requires
+smoothed-requires : tie.Need-smoothed-named-requires
 smoothed-requires c κs = search rules
 
 strip-requires : tie.Need-strip-requires
 strip-requires c κs = search rules
 
-same_length : tie.Need-same-length
+same_length : tie.Need-shape_of-red
 same_length c = search rules
 
-same-length-2 : tie.Need-same-length-2
+same-length-2 : tie.Need-shape_of-green
 same-length-2 c = search rules
 
-same-length-3 : tie.Need-same-length-3
+same-length-3 : tie.Need-shape_of-blue
 same-length-3 c = search rules
 
 returns : tie.Need-returns
 returns c = let s = c.before.before.before.before.before.before in rw (← named s.before.before.before.before) s.strip.ensures
 
-pub rokzimp-strip-smoothed-spec : {M : Type 1} → statement M
-rokzimp-strip-smoothed-spec = tie.close (tie.spec smoothed-requires strip-requires same_length same-length-2 same-length-3 returns)
+pub rokzimp_strip_smoothed_spec : {M : Type 1} → statement M
+rokzimp_strip_smoothed_spec = tie.close (tie.spec smoothed-requires strip-requires same_length same-length-2 same-length-3 returns)

@@ -3,14 +3,14 @@ use borrow.Author.Rules.{rules}
 use Rattle.capi.proofs.strips.rokzimp_strip_smoothed_check.Statement.{statement}
 use Rattle.capi.proofs.strips.rokzimp_strip_smoothed_check.Tie as tie
 
-smoothed-requires : tie.Need-smoothed-requires
+smoothed-requires : tie.Need-smoothed-frame-requires
 smoothed-requires c κs = search rules
 
-strip-check-requires : tie.Need-strip-check-requires
+strip-check-requires : tie.Need-strip_check-requires
 strip-check-requires c κs = search rules
 
 returns : tie.Need-returns
-returns c = rw (← c.before.smoothed.ensures) c.strip-check.ensures
+returns c = rw (← c.before.smoothed-frame.ensures) c.strip_check.ensures
 
-pub rokzimp-strip-smoothed-check-spec : {M : Type 1} → statement M
-rokzimp-strip-smoothed-check-spec = tie.close (tie.spec smoothed-requires strip-check-requires returns)
+pub rokzimp_strip_smoothed_check_spec : {M : Type 1} → statement M
+rokzimp_strip_smoothed_check_spec = tie.close (tie.spec smoothed-requires strip-check-requires returns)

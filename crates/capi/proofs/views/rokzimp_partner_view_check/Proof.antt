@@ -6,11 +6,11 @@ use Rattle.capi.proofs.views.rokzimp_partner_view_check.Tie as tie
 new-requires : tie.Need-new-requires
 new-requires c κs = search rules
 
-partner-view-check-requires : tie.Need-partner-view-check-requires
+partner-view-check-requires : tie.Need-partner_view_check-requires
 partner-view-check-requires c κs = search rules
 
 returns : tie.Need-returns
-returns c = rw (← c.before.new.ensures) c.partner-view-check.ensures
+returns c = rw (← c.before.new.ensures) c.partner_view_check.ensures
 
-pub rokzimp-partner-view-check-spec : {M : Type 1} → statement M
-rokzimp-partner-view-check-spec = tie.close (tie.spec new-requires partner-view-check-requires returns)
+pub rokzimp_partner_view_check_spec : {M : Type 1} → statement M
+rokzimp_partner_view_check_spec = tie.close (tie.spec new-requires partner-view-check-requires returns)
