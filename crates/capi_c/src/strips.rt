@@ -1,0 +1,86 @@
+ghost use Rattle.std.specs.Prelude.{◌≡◌};
+ghost use Rattle.bayer.specs.Frame.{frame, smoothed};
+ghost use Rattle.bayer.specs.Planes.{three_planes};
+ghost use Rattle.strip.specs.Strip.{asked, strip_number, Promise};
+ghost use Rattle.strip.specs.declared.entry.Entry.TheVariants.{FullSize};
+
+// The number of a strip call that names no smoothing, and is lent planes of these lengths: 0, or its refusal.
+#[unsafe(no_mangle)]
+pub extern "C" fn rokzimp_strip_check(
+    width: usize,
+    height: usize,
+    layout: u8,
+    a: usize,
+    n: usize,
+    piece: &[u16],
+    red: usize,
+    green: usize,
+    blue: usize,
+) -> u32
+    ensures { result ≡ strip_number (asked FullSize (frame width height layout) a n piece.now) red green blue }
+{
+    capi::strips::rokzimp_strip_check(width, height, layout, a, n, piece, red, green, blue)
+}
+
+// Rows a to a + n - 1 of the three planes, with no smoothing named.
+#[unsafe(no_mangle)]
+pub extern "C" fn rokzimp_strip(
+    width: usize,
+    height: usize,
+    layout: u8,
+    a: usize,
+    n: usize,
+    piece: &[u16],
+    red: &mut [u16],
+    green: &mut [u16],
+    blue: &mut [u16],
+) -> u32
+    ensures { Promise (asked FullSize (frame width height layout) a n piece.now)
+        (three_planes red.old green.old blue.old) result
+        (three_planes red.new green.new blue.new) }
+{
+    capi::strips::rokzimp_strip(width, height, layout, a, n, piece, red, green, blue)
+}
+
+// The same, with a smoothing that is named.
+#[unsafe(no_mangle)]
+pub extern "C" fn rokzimp_strip_smoothed_check(
+    width: usize,
+    height: usize,
+    layout: u8,
+    smoothing: u8,
+    a: usize,
+    n: usize,
+    piece: &[u16],
+    red: usize,
+    green: usize,
+    blue: usize,
+) -> u32
+    ensures { result ≡ strip_number (asked FullSize (smoothed width height layout smoothing) a n piece.now) red green blue }
+{
+    capi::strips::rokzimp_strip_smoothed_check(
+        width, height, layout, smoothing, a, n, piece, red, green, blue,
+    )
+}
+
+#[unsafe(no_mangle)]
+pub extern "C" fn rokzimp_strip_smoothed(
+    width: usize,
+    height: usize,
+    layout: u8,
+    smoothing: u8,
+    a: usize,
+    n: usize,
+    piece: &[u16],
+    red: &mut [u16],
+    green: &mut [u16],
+    blue: &mut [u16],
+) -> u32
+    ensures { Promise (asked FullSize (smoothed width height layout smoothing) a n piece.now)
+        (three_planes red.old green.old blue.old) result
+        (three_planes red.new green.new blue.new) }
+{
+    capi::strips::rokzimp_strip_smoothed(
+        width, height, layout, smoothing, a, n, piece, red, green, blue,
+    )
+}
