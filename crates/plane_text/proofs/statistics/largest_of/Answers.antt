@@ -1,8 +1,7 @@
 -- The largest sample so far, joined with those from i on, is the largest. Assumes nothing.
-use Rattle.std.proofs.Common.{arith}
+use Rattle.std.proofs.Common.{arith, rules}
 use Rattle.plane_text.proofs.FoldLaws.{reached-first, reached-next, reached-end, folded-none}
 use Rattle.plane_text.proofs.statistics.largest_of.Goals as goal
-use Rattle.plane_text.proofs.statistics.largest_of.Goals.{then-high-plane, else-high-plane}
 
 pub returns-then-plane-eq0 : goal.returns-then-plane-eq0
 returns-then-plane-eq0 c = folded-none _ _ (omega arith)
@@ -12,7 +11,7 @@ loop-i-init c = reached-first _ (omega arith)
 
 pub loop-i-preserved : goal.loop-i-preserved
 loop-i-preserved c =
-    reached-next c.loop-i.invariant (omega arith) (elim c.if-high-plane.branch [ then-high-plane w ↦ omega arith | else-high-plane w ↦ omega arith ])
+    reached-next c.loop-i.invariant (omega arith) (search rules)
 
 pub returns : goal.returns
 returns c = reached-end c.loop-i.invariant (omega arith)
