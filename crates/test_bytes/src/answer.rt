@@ -14,6 +14,7 @@ use plane_text::text::put_refusal_line;
 use test_frames::frame::test_frame;
 
 // The number of the frame that is named: refusals 1 and 2; then 8, if it has more than 4096 readings.
+#[tactic(auto, using(crate::proofs::OutputLaws::too_large))]
 fn named_check(frame: Frame) -> u32
     ensures { result ≡ first_of (named_cases frame) }
 {
