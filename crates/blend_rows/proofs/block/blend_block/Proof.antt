@@ -16,8 +16,8 @@ use Rattle.blend_rows.proofs.block.blend_block.Tie as tie
 abbrev start : tie.After-logistic-entries → tie.Start
 start c = c.before.before.before.before.before.before.before.before.before
 
-abbrev fetched : tie.After-e2 → tie.After-fetch_halves
-fetched c = c.before.before.before.before.before.before
+abbrev fetched : tie.After-entries-1 → tie.After-fetch_halves
+fetched c = c.before.before.before.before.before
 
 -- the places of the half rows, which are in the room
 abbrev size : tie.Start → ℕ
@@ -36,39 +36,39 @@ fetch-halves-requires c κs =
 
 blend-rows-requires : tie.Need-blend_rows-requires
 blend-rows-requires c κs =
-    let f = fetched c.before.before.before.before.before.before.before.before in
+    let f = fetched c.before.before.before.before.before.before.before in
     let l = f.before.before.before in
     let s = start l in
     let a = s.args in
-    let z = (s.pre.0.0 0 s.pre.0.1).frame in
-    let e = (front-again (size s) a.e-1.now (room s).0 f.fetch_halves.auto.e) in
-    let o = (front-again (size s) a.o-1.now (room s).1 f.fetch_halves.auto.o) in (
+    let z = (s.requires.0.0 0 s.requires.0.1).frame in
+    let e = (front-again (size s) a.e.now (room s).0 f.fetch_halves.auto.e) in
+    let o = (front-again (size s) a.o.now (room s).1 f.fetch_halves.auto.o) in (
       (
         l.logistic-entries.ensures,
         omega (arith, l.before.starts_green-odd.ensures, starts-below a.frame.layout a.v),
         omega (arith, z.wide),
         z.narrow,
-        s.pre.0.2,
-        half-small a.frame a.start a.piece.now a.v a.b s.pre.0.3 0 (e ∙ f.fetch_halves.ensures.0),
-        half-small a.frame a.start a.piece.now a.v a.b s.pre.0.3 1 (o ∙ f.fetch_halves.ensures.1),
+        s.requires.0.2,
+        half-small a.frame a.start a.piece.now a.v a.b s.requires.0.3 0 (e ∙ f.fetch_halves.ensures.0),
+        half-small a.frame a.start a.piece.now a.v a.b s.requires.0.3 1 (o ∙ f.fetch_halves.ensures.1),
       ),
-      (ap length e ∙ f.fetch_halves.auto.e ∙ front (size s) a.e-1.now (room s).0, ap length o ∙ f.fetch_halves.auto.o ∙ front (size s) a.o-1.now (room s).1, s.pre.1.3, s.pre.1.2),
+      (ap length e ∙ f.fetch_halves.auto.e ∙ front (size s) a.e.now (room s).0, ap length o ∙ f.fetch_halves.auto.o ∙ front (size s) a.o.now (room s).1, s.requires.1.3, s.requires.1.2),
     )
 
 returns : tie.Need-returns
 returns c =
-    let f = fetched c.before.before.before.before.before.before.before.before.before.before.before.before.before.before.before.before.before.before in
+    let f = fetched c.before.before.before.before.before.before.before.before.before.before.before.before.before.before.before.before.before in
     let l = f.before.before.before in
     let s = start l in
     let a = s.args in
-    let e = (front-again (size s) a.e-1.now (room s).0 f.fetch_halves.auto.e) in
-    let o = (front-again (size s) a.o-1.now (room s).1 f.fetch_halves.auto.o) in
+    let e = (front-again (size s) a.e.now (room s).0 f.fetch_halves.auto.e) in
+    let o = (front-again (size s) a.o.now (room s).1 f.fetch_halves.auto.o) in
     c.before.before.before.before.before.before.before.before.before.blend_rows.ensures
-    ∙ block-blended a.frame a.start a.piece.now a.v a.b (e ∙ f.fetch_halves.ensures.0) (o ∙ f.fetch_halves.ensures.1) s.pre.0.0 l.before.starts_green-odd.ensures
+    ∙ block-blended a.frame a.start a.piece.now a.v a.b (e ∙ f.fetch_halves.ensures.0) (o ∙ f.fetch_halves.ensures.1) s.requires.0.0 l.before.starts_green-odd.ensures
 
 part-blend-rows-end-2 : tie.Need-slice_bounds-blend_rows-end-2
 part-blend-rows-end-2 c =
-    let f = fetched c.before.before in
+    let f = fetched c.before in
     let s = start f.before.before.before in
     omega (arith, room s, lent_length (size s) s.args.o.now (room s).1 f.fetch_halves.new.o f.fetch_halves.auto.o)
 

@@ -83,8 +83,7 @@ loop-again c =
     let k = r.before.before.before.before.before.before.before.before in
     let l = k.before.loop-i in
     let v = start k in
-    let a = v.args in
-    (
+    let a = v.args in (
       omega arith,
       joined-turn _ _ (row-length a.w a.odd a.e.now a.o.now) l.i a.b a.out.now k.loop-i-test.true v.requires.1.2 l.invariant.1
           (r.blend_row_from.ensures ∙ row_same a.w a.odd a.e.now a.o.now l.i (part_length (l.i * a.w) a.w l.out (omega (arith, (inside k).0, l.invariant.1.1)))),

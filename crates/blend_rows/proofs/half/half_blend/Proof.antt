@@ -15,11 +15,11 @@ use Rattle.blend_rows.proofs.half.half_blend.Tie as tie
 abbrev start : tie.After-row_places → tie.Start
 start c = c.before.before.before.before.before.before
 
-abbrev placed : tie.After-row-weights-arg2 → tie.After-row_places
-placed c = c.before.before.before.before
+abbrev placed : tie.After-row_weights-arg-1 → tie.After-row_places
+placed c = c.before.before.before
 
-abbrev weighed : tie.After-row-blend-arg2 → tie.After-row_weights
-weighed c = c.before.before.before.before
+abbrev weighed : tie.After-row_blend-arg-1 → tie.After-row_weights
+weighed c = c.before.before.before
 
 again : {m n : ℕ} {vr vc : List ℕ} {xr xc : List ℤ} → m ≡ n → Axes n vr vc xr xc → Axes m vr vc xr xc
 again e z = rw e z
@@ -28,7 +28,7 @@ row-weights-requires : tie.Need-row_weights-requires
 row-weights-requires c κs =
     let r = placed c in
     let s = start r in
-    (s.pre.0, omega (arith, s.pre.2, r.row_places.auto.out), places-small s.args.vr.now s.args.vc.now (length s.args.p.now) r.row_places.ensures)
+    (s.requires.0, omega (arith, s.requires.2, r.row_places.auto.out), places-small s.args.vr.now s.args.vc.now (length s.args.p.now) r.row_places.ensures)
 
 row-blend-requires : tie.Need-row_blend-requires
 row-blend-requires c κs =
@@ -38,7 +38,7 @@ row-blend-requires c κs =
     let n = length s.args.p.now in
     let vr = s.args.vr.now in
     let vc = s.args.vc.now in
-    (again (places-length vr vc n r.row_places.ensures) s.pre.1, weighted-by vr vc n r.row_places.ensures s.pre.2 w.row_weights.ensures)
+    (again (places-length vr vc n r.row_places.ensures) s.requires.1, weighted-by vr vc n r.row_places.ensures s.requires.2 w.row_weights.ensures)
 
 returns : tie.Need-returns
 returns c =

@@ -106,10 +106,10 @@ half_greens_spec =
     (λ c. search rules)
     (λ c. search rules)
     (λ c. search rules)
-    (λ c. let k = c.before.before.before.before.before.before.before in let r = row k.before in omega (arith, (start r).pre.1, r.along_row.auto.x, k.along_column.auto.x))
-    (λ c. let k = column c in let r = row k.before in omega (arith, (start r).pre.1, r.along_row.auto.x, k.along_column.auto.x))
-    (λ c. let k = column c in let r = row k.before in omega (arith, (start r).pre.1, r.along_row.auto.x, k.along_column.auto.x))
-    (λ c. let k = column c in let r = row k.before in omega (arith, (start r).pre.1, r.along_row.auto.x, k.along_column.auto.x))
+    (λ c. let k = c.before.before.before.before.before in let r = row k.before in omega (arith, (start r).requires.1, r.along_row.auto.x, k.along_column.auto.x))
+    (λ c. let k = column c in let r = row k.before in omega (arith, (start r).requires.1, r.along_row.auto.x, k.along_column.auto.x))
+    (λ c. let k = column c in let r = row k.before in omega (arith, (start r).requires.1, r.along_row.auto.x, k.along_column.auto.x))
+    (λ c. let k = column c in let r = row k.before in omega (arith, (start r).requires.1, r.along_row.auto.x, k.along_column.auto.x))
     (λ c. search rules)
     half-blend-requires
     same_length

@@ -45,28 +45,28 @@ scaled-requires c κs =
 
 interleave-requires : tie.Need-interleave-requires
 interleave-requires c κs =
-    let q = c.before.before.before.before.before.before.before in
+    let q = c.before.before.before.before.before in
     let g = greens q.before in
     let s = start g in
-    (s.pre.0.1, omega (arith, s.pre, q.scaled.auto.out, g.half_greens.auto.p, g.half_greens.auto.q), omega (arith, s.pre, g.half_greens.auto.p))
+    (s.requires.0.1, omega (arith, s.requires, q.scaled.auto.out, g.half_greens.auto.p, g.half_greens.auto.q), omega (arith, s.requires, g.half_greens.auto.p))
 
 returns : tie.Need-returns
 returns c =
-    let q = c.before.before.before.before.before.before.before.before.before.before in
+    let q = c.before.before.before.before.before.before.before.before in
     let g = greens q.before in
     let s = start g in
     let a = s.args in
-    let w = length a.out-1.now in
+    let w = length a.out.now in
     let own = a.own.now in
     let beside = a.beside.now in
-    let r = s.pre.1.2 in
+    let r = s.requires.1.2 in
     let m = g.half_greens.new.q in
-    let l = lent_length (n s) a.q-1.now (omega (arith, s.pre.0.1, r.for-other-half)) m g.half_greens.auto.q in
+    let l = lent_length (n s) a.q.now (omega (arith, s.requires.0.1, r.for-other-half)) m g.half_greens.auto.q in
     c.before.before.interleave.ensures
     ∙ ap₂ (λ p q. table (interleaved a.side p q) w)
-    (front-table (blend_in a.h a.side own beside) (blend_in a.h a.side own beside) (n s) a.p-1.now (omega (arith, r.for-half)) g.half_greens.ensures (λ k _. refl))
-    (front-table _ (λ k. 16 * get_or beside (1 + k) 0) (w - n s) (m ++ drop (n s - 0) a.q-1.now) (omega (arith, s.pre.0.1, r.for-other-half, l)) q.scaled.ensures
-    (λ k l. ap (λ i. 16 * i) (get_or-from 1 beside k (1 + k) 0 (omega (arith, s.pre, s.pre.0.3.one)) refl)))
+    (front-table (blend_in a.h a.side own beside) (blend_in a.h a.side own beside) (n s) a.p.now (omega (arith, r.for-half)) g.half_greens.ensures (λ k _. refl))
+    (front-table _ (λ k. 16 * get_or beside (1 + k) 0) (w - n s) (m ++ drop (n s - 0) a.q.now) (omega (arith, s.requires.0.1, r.for-other-half, l)) q.scaled.ensures
+    (λ k l. ap (λ i. 16 * i) (get_or-from 1 beside k (1 + k) 0 (omega (arith, s.requires, s.requires.0.3.one)) refl)))
 
 -- what the parts and the other calls ask is found
 pub blend_row_spec : {M : Type 1} → statement M
@@ -99,14 +99,14 @@ blend_row_spec =
     scaled-requires
     (λ c. search rules)
     (λ c. search rules)
-    (λ c. let g = greens c.before.before.before.before in omega (arith, (start g).pre.1, g.half_greens.auto.p))
+    (λ c. let g = greens c.before.before.before in omega (arith, (start g).requires.1, g.half_greens.auto.p))
     (λ c. search rules)
     (λ c. search rules)
-    (λ c. let q = c.before.before.before.before.before in let g = greens q.before in omega (arith, (start g).pre, q.scaled.auto.out, g.half_greens.auto.q))
+    (λ c. let q = c.before.before.before in let g = greens q.before in omega (arith, (start g).requires, q.scaled.auto.out, g.half_greens.auto.q))
     interleave-requires
     (λ c. search rules)
     (λ c. search rules)
     (λ c. search rules)
-    (λ c. let q = c.before.before.before.before.before.before.before.before.before.before in let g = greens q.before in omega (arith, (start g).pre, q.scaled.auto.out, g.half_greens.auto.q))
+    (λ c. let q = c.before.before.before.before.before.before.before.before in let g = greens q.before in omega (arith, (start g).requires, q.scaled.auto.out, g.half_greens.auto.q))
     (λ c. search rules)
     returns)

@@ -274,8 +274,7 @@ loop-again c =
     let k = test r.before in
     let l = k.before.loop-i in
     let v = start k in
-    let a = v.args in
-    (
+    let a = v.args in (
       omega arith,
       joined-turn _ _ (row-length a.smoothing a.x.now a.w a.odd a.dh.now a.dv.now a.gh.now a.tv.now) l.i a.b a.out.now k.loop-i-test.true v.requires.0.3 l.invariant.1
           (r.fuse_in.ensures ∙ row_same a.smoothing a.x.now a.dh.now a.dv.now a.gh.now a.tv.now a.w a.odd l.i (part_length (l.i * a.w) a.w a.x.now (omega (arith, (inside k).0)))),

@@ -139,8 +139,7 @@ loop-again c =
     let l = k.before.loop-i in
     let i = l.invariant in
     let v = start k in
-    let a = v.args in
-    (
+    let a = v.args in (
       inside e,
       joined-turns _ _ (row-length a.frame a.start a.piece.now a.a) l.i e.block_size-b.result a.n a.out.now (inside e) v.requires.1.1.1 i.1
           (r.green_block_in.ensures ∙ rows-from a.frame a.start a.piece.now a.a l.i e.block_size-b.result),

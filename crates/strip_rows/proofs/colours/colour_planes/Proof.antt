@@ -154,8 +154,7 @@ loop-again c =
     let e = sized r.before in
     let l = e.before.before.loop-i in
     let v = s e in
-    let a = v.args in
-    (
+    let a = v.args in (
       inside e,
       joined-turns _ _ (row-length a.frame a.start a.piece.now Red a.a) l.i (b e) a.n a.red.now (inside e) v.requires.0.2 l.invariant.1
           (r.colour_block.ensures.0 ∙ rows-from a.frame a.start a.piece.now Red a.a l.i (b e)),

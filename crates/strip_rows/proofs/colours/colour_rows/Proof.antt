@@ -179,7 +179,6 @@ colour-row-requires-2 c κs =
     let s = start k in
     let a = s.args in
     let w = a.frame.width in
-    
     row-ready w a.b a.x.now a.g.now a.e.now l.i k.loop-i-test.true s.requires.0.3 _ _ _ _ _ s.requires.0.0 s.requires.1.0.0 s.requires.1.0.1 s.requires.1.0.2 s.requires.0.4 s.requires.0.5
     (part_length (l.i * w) w l.blue (omega (arith, inside k, l.invariant.2.1, s.requires.1.0.4)))
     (omega (arith, inside k)) (omega (arith, inside k)) (omega (arith, inside k))
@@ -202,9 +201,7 @@ loop-again c =
     let k = r₁.before.before.before.before.before.before.before.before.before in
     let l = k.before.loop-i in
     let s = start k in
-    let a = s.args in
-    
-    (
+    let a = s.args in (
       omega (arith, k.loop-i-test.true),
       joined-turn _ _ (long s Red) l.i a.b a.red.now k.loop-i-test.true s.requires.1.0.3 l.invariant.1 (row_done a.frame Red a.v a.x.now a.g.now a.e.now l.i r₁.colour_row.ensures),
       joined-turn _ _ (long s Blue) l.i a.b a.blue.now k.loop-i-test.true s.requires.1.0.4 l.invariant.2 (row_done a.frame Blue a.v a.x.now a.g.now a.e.now l.i r₂.colour_row-in-loop-i.ensures),

@@ -44,8 +44,7 @@ greens-requires c κs =
 colour-planes-requires : tie.Need-colour_planes-requires
 colour-planes-requires c κs =
     let g = green c in
-    let s = start (placed g) in
-    (
+    let s = start (placed g) in (
       (readable (placed g), g.greens.ensures, s.requires.0.1.red-is, s.requires.0.1.blue-is),
       colour-room-kept (room s) g.greens.auto.f g.greens.auto.p g.greens.auto.q,
     )

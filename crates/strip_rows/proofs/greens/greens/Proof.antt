@@ -46,8 +46,7 @@ beside s = s.requires.0.lent
 green-beside-requires : tie.Need-green_beside-requires
 green-beside-requires c κs =
     let c₁ = own (to-above c) in
-    let s = start c₁.before in
-    (
+    let s = start c₁.before in (
       (λ v e h. beside s v h (omega (arith, e)) (omega (arith, e)), s.requires.0.range),
       (
         room-kept s.requires.1.1 c₁.green_rows.auto.x c₁.green_rows.auto.d c₁.green_rows.auto.g c₁.green_rows.auto.tv c₁.green_rows.auto.t c₁.green_rows.auto.f
@@ -66,9 +65,7 @@ green-beside-requires-2 : tie.Need-green_beside-requires-2
 green-beside-requires-2 c κs =
     let c₂ = above (to_below c) in
     let c₁ = own (to-above c₂.before) in
-    let s = start c₁.before in
-    
-    (
+    let s = start c₁.before in (
       (λ v e h. beside s v h (omega (arith, e)) (omega (arith, e)), s.requires.0.range),
       (
         room-kept s.requires.1.1 (c₂.green_beside.auto.x ∙ c₁.green_rows.auto.x) (c₂.green_beside.auto.d ∙ c₁.green_rows.auto.d) (c₂.green_beside.auto.g ∙ c₁.green_rows.auto.g) (c₂.green_beside.auto.tv ∙ c₁.green_rows.auto.tv) (c₂.green_beside.auto.t ∙ c₁.green_rows.auto.t)
