@@ -6,6 +6,7 @@ use crate::print;
 use fusion::pixel::{fusion, green};
 use gbtf::direction::Direction;
 use gbtf::weights::{total, weights_of};
+use std::io;
 
 // A five-sum, which the case gives with 16380 totals added.
 fn five_sum(total: u32, a: usize) -> i32
@@ -30,13 +31,13 @@ fn reading(c: usize) -> u16 {
 }
 
 // Green by fusion of four directions.
-pub fn run(f: &Fields) {
+pub fn run(rt: &impl Print, f: &Fields) -> io::Result<()> {
     let total = total(weights_of(byte(f[1])));
     let east = direction(total, f[3], f[7]);
     let west = direction(total, f[4], f[8]);
     let north = direction(total, f[5], f[9]);
     let south = direction(total, f[6], f[10]);
     let g = green(reading(f[2]), fusion(total, east, west, north, south));
-    io::print_decimal(1, print::sample(g));
-    io::write_all(1, b"\n");
+    let answer = print::sample(g);
+    println!(rt; "{answer}")
 }

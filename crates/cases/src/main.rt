@@ -5,6 +5,8 @@
 ghost use Rattle.std.specs.Prelude.{◌<◌, length};
 
 use crate::fields::Fields;
+use input::read_full;
+use std::io;
 
 mod fields;
 mod fusion_case;
@@ -19,63 +21,66 @@ mod test_case;
 mod view_case;
 
 // One line: a case, by its letter, or a comment.
-fn answer(letter: u8, f: &Fields) {
+fn answer(rt: &impl Print, letter: u8, f: &Fields) -> io::Result<()> {
     if letter == b'S' {
-        strip_case::run(f);
+        strip_case::run(rt, f)?;
     }
     if letter == b'C' {
-        small_case::run(f);
+        small_case::run(rt, f)?;
     }
     if letter == b'M' {
-        mosaic_case::run(f);
+        mosaic_case::run(rt, f)?;
     }
     if letter == b'B' {
-        mosaic_case::run_strip(f);
+        mosaic_case::run_strip(rt, f)?;
     }
     if letter == b'J' {
-        test_case::run_jump(f);
+        test_case::run_jump(rt, f)?;
     }
     if letter == b'W' {
-        test_case::run_frame(f);
+        test_case::run_frame(rt, f)?;
     }
     if letter == b'L' {
-        test_case::run_row(f);
+        test_case::run_row(rt, f)?;
     }
     if letter == b'V' {
-        view_case::run_row(f);
+        view_case::run_row(rt, f)?;
     }
     if letter == b'Q' {
-        view_case::run_partner(f);
+        view_case::run_partner(rt, f)?;
     }
     if letter == b'R' {
-        piece_case::run(f);
+        piece_case::run(rt, f)?;
     }
     if letter == b'F' {
-        fusion_case::run(f);
+        fusion_case::run(rt, f)?;
     }
+    Ok(())
 }
 
-// The line at `at`, which lies inside. The answer is where the next line starts.
-fn line(bytes: &[u8], at: usize) -> usize
+// The numbers of the line at `at`, which lies inside. The answer is where the next line starts.
+fn line(bytes: &[u8], at: usize, f: &mut Fields) -> usize
     requires { at < length bytes.now }
     ensures { at < result }
 {
     let end = fields::line_end(bytes, at);
-    let mut f = [0; 64];
-    fields::read(&bytes[at..end], &mut f);
-    answer(bytes[at], &f);
+    fields::read(&bytes[at..end], f);
     end + 1
 }
 
-fn lines(bytes: &[u8]) {
+fn lines(rt: &impl Print, bytes: &[u8]) -> io::Result<()> {
     let mut at = 0;
     while at < bytes.len() {
-        at = line(bytes, at);
+        let mut f = [0; 64];
+        let next = line(bytes, at, &mut f);
+        answer(rt, bytes[at], &f)?;
+        at = next;
     }
+    Ok(())
 }
 
-fn main() {
+fn main(rt: HostRuntime) -> io::Result<()> {
     let mut bytes = [0u8; 400000];
-    let n = io::read_full(0, &mut bytes);
-    lines(&bytes[..n]);
+    let n = read_full(&mut rt.reader(), &mut bytes)?;
+    lines(&rt, &bytes[..n])
 }

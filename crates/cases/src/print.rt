@@ -1,9 +1,10 @@
 ghost use Rattle.std.specs.Prelude.{◌<◌};
 
+use std::io;
+
 // A space and a number.
-pub fn number(x: u64) {
-    io::write_all(1, b" ");
-    io::print_decimal(1, x);
+pub fn number(rt: &impl Print, x: u64) -> io::Result<()> {
+    print!(rt; " {x}")
 }
 
 pub fn size(x: usize) -> u64 {
@@ -43,20 +44,19 @@ fn sum(samples: &[u16]) -> u64 {
 }
 
 // The first sample and the last, or 0 0.
-fn ends(samples: &[u16]) {
+fn ends(rt: &impl Print, samples: &[u16]) -> io::Result<()> {
     if samples.len() == 0 {
-        number(0);
-        number(0);
-        return;
+        number(rt, 0)?;
+        return number(rt, 0);
     }
     let last = samples.len() - 1;
-    number(sample(samples[0]));
-    number(sample(samples[last]));
+    number(rt, sample(samples[0]))?;
+    number(rt, sample(samples[last]))
 }
 
 // A plane: sum, checksum, first and last sample.
-pub fn plane(samples: &[u16]) {
-    number(sum(samples));
-    number(checksum(samples));
-    ends(samples);
+pub fn plane(rt: &impl Print, samples: &[u16]) -> io::Result<()> {
+    number(rt, sum(samples))?;
+    number(rt, checksum(samples))?;
+    ends(rt, samples)
 }

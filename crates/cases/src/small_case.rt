@@ -5,6 +5,7 @@ use crate::fields::{Fields, least};
 use crate::recipe::times;
 use crate::{print, recipe, strip_case};
 use capi::pieces::{rokzimp_piece_rows, rokzimp_piece_start};
+use std::io;
 
 // The end of so many samples from `from` on, or of the room.
 fn end_of(from: usize, size: usize, room: usize) -> usize
@@ -63,32 +64,47 @@ fn strips(f: &Fields, mosaic: &[u16], red: &mut [u16], green: &mut [u16], blue: 
 }
 
 // The answer: the planes, as the strips have left them.
-fn show(f: &Fields, mosaic: &[u16], red: &mut [u16], green: &mut [u16], blue: &mut [u16])
+fn show(
+    rt: &impl Print,
+    f: &Fields,
+    mosaic: &[u16],
+    red: &mut [u16],
+    green: &mut [u16],
+    blue: &mut [u16],
+) -> io::Result<()>
     requires { (length red.old ≡ 1485) × (length green.old ≡ 1485) × (length blue.old ≡ 1485) }
 {
     let end = strips(f, mosaic, red, green, blue);
-    io::print_decimal(1, print::size(end));
-    print::plane(&red[0..end]);
-    print::plane(&green[0..end]);
-    print::plane(&blue[0..end]);
-    io::write_all(1, b"\n");
+    let size = print::size(end);
+    print!(rt; "{size}")?;
+    print::plane(rt, &red[0..end])?;
+    print::plane(rt, &green[0..end])?;
+    print::plane(rt, &blue[0..end])?;
+    println!(rt; "")
 }
 
 // Lent samples as the case asks for.
-fn lend(f: &Fields, mosaic: &mut [u16], red: &mut [u16], green: &mut [u16], blue: &mut [u16])
+fn lend(
+    rt: &impl Print,
+    f: &Fields,
+    mosaic: &mut [u16],
+    red: &mut [u16],
+    green: &mut [u16],
+    blue: &mut [u16],
+) -> io::Result<()>
     requires { (length red.old ≡ 1485) × (length green.old ≡ 1485) × (length blue.old ≡ 1485) }
 {
     recipe::piece(f, mosaic);
     recipe::planes(f, red, green, blue);
-    show(f, mosaic, red, green, blue);
+    show(rt, f, mosaic, red, green, blue)
 }
 
 // In each plane room for the samples of the 45 strips that 9 rows have.
-pub fn run(f: &Fields) {
+pub fn run(rt: &impl Print, f: &Fields) -> io::Result<()> {
     let mut mosaic = [0u16; 81];
     let mut red = [0u16; 1485];
     let mut green = [0u16; 1485];
     let mut blue = [0u16; 1485];
     let size = least(times(f[1], f[2]), 81);
-    lend(f, &mut mosaic[0..size], &mut red, &mut green, &mut blue);
+    lend(rt, f, &mut mosaic[0..size], &mut red, &mut green, &mut blue)
 }

@@ -1,6 +1,8 @@
 // The small program: smallest, largest and sum of each plane of the frame file on standard input. rt check runs it on document 01's example.
 #![tactic(auto)]
 
-fn main() {
-    frame_program::file::run();
+use std::io;
+
+fn main(rt: HostRuntime) -> io::Result<()> {
+    frame_program::file::run(&rt)
 }

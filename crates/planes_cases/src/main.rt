@@ -5,6 +5,8 @@
 ghost use Rattle.std.specs.Prelude.{◌≤◌};
 
 use frame_file::answer;
+use input::read_full;
+use std::io;
 use test_bytes::answer as test_answer;
 
 fn answer_of(program: u8, bytes: &[u8], out: &mut [u8]) -> usize
@@ -16,10 +18,10 @@ fn answer_of(program: u8, bytes: &[u8], out: &mut [u8]) -> usize
     test_answer::answer(bytes, out)
 }
 
-fn print_answer(program: u8, bytes: &[u8]) {
+fn print_answer(rt: &impl Print, program: u8, bytes: &[u8]) -> io::Result<()> {
     let mut out = [0u8; 105];
     let size = answer_of(program, bytes, &mut out);
-    io::write_all(1, &out[..size]);
+    rt.write_all(&out[..size])
 }
 
 fn wide(x: u8) -> usize
@@ -28,7 +30,7 @@ fn wide(x: u8) -> usize
     x as usize
 }
 
-fn print_answers(bytes: &[u8]) {
+fn print_answers(rt: &impl Print, bytes: &[u8]) -> io::Result<()> {
     let mut at = 0;
     while 3 <= bytes.len() - at {
         let high = at + 1;
@@ -36,15 +38,16 @@ fn print_answers(bytes: &[u8]) {
         let start = at + 3;
         let end = start + (wide(bytes[high]) * 256 + wide(bytes[low]));
         if bytes.len() < end {
-            return;
+            return Ok(());
         }
-        print_answer(bytes[at], &bytes[start..end]);
+        print_answer(rt, bytes[at], &bytes[start..end])?;
         at = end;
     }
+    Ok(())
 }
 
-fn main() {
-    let mut bytes = io::large_buffer();
-    let n = io::read_full(0, &mut bytes);
-    print_answers(&bytes[..n]);
+fn main(rt: HostRuntime) -> io::Result<()> {
+    let mut bytes = [0u8; 65536];
+    let n = read_full(&mut rt.reader(), &mut bytes)?;
+    print_answers(&rt, &bytes[..n])
 }

@@ -2,6 +2,8 @@
 // 8, layout 0.
 #![tactic(auto)]
 
-fn main() {
-    frame_program::test::run();
+use std::io;
+
+fn main(rt: HostRuntime) -> io::Result<()> {
+    frame_program::test::run(&rt)
 }

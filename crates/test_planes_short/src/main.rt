@@ -1,6 +1,8 @@
 // The small program of test frames again. rt check runs it on nine bytes that name a frame, without the last.
 #![tactic(auto)]
 
-fn main() {
-    frame_program::test::run();
+use std::io;
+
+fn main(rt: HostRuntime) -> io::Result<()> {
+    frame_program::test::run(&rt)
 }
