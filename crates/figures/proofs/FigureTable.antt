@@ -19,7 +19,7 @@ use Rattle.gbtf.specs.declared.direction.Direction.{Direction}
 use Rattle.gbtf.specs.Difference.{difference}
 use Rattle.gbtf.specs.Direction.{guarded_sum}
 use Rattle.gbtf.specs.Fusion.{smallest_sum, share, shares, shared_differences, fusion, green}
-use Rattle.gbtf.specs.GreenAt.{DH, DV, Gh, GV, green_at}
+use Rattle.gbtf.specs.GreenAt.{DH, DV, GH, GV, green_at}
 use Rattle.gbtf.specs.Weights.{scale}
 use Rattle.green_rule.specs.Greens.{greens}
 use Rattle.demosaic.specs.Fill.{fill}
@@ -64,11 +64,11 @@ abbrev Greens : (smoothing red green blue : ℕ) (value : ℕ) → Type 0
 Greens smoothing red green blue value = T (plane_is (frame8 smoothing) (readings8 red green blue) Green (λ i j. value))
 
 greens-400 : Greens 0 400 200 100 3200 × Greens 1 400 200 100 3200
-unfolding colours colour_at reflect mirror row_of difference fusion green DH DV Gh GV green_at greens sample
+unfolding colours colour_at reflect mirror row_of difference fusion green DH DV GH GV green_at greens sample
 greens-400 = (tt, tt)
 
 greens-4095 : Greens 0 4095 0 0 0 × Greens 1 4095 0 0 0
-unfolding colours colour_at reflect mirror row_of difference fusion green DH DV Gh GV green_at greens sample
+unfolding colours colour_at reflect mirror row_of difference fusion green DH DV GH GV green_at greens sample
 greens-4095 = (tt, tt)
 
 -- ---- the table

@@ -15,7 +15,7 @@ use Rattle.bayer.specs.Refusal.{first_of}
 use Rattle.gbtf.specs.Difference.{difference}
 use Rattle.gbtf.specs.Fusion.{fusion, green}
 use Rattle.gbtf.specs.Exact.{sum_over/t², exact_green}
-use Rattle.gbtf.specs.GreenAt.{DH, DV, Gh, GV, green_at, exact_green_at}
+use Rattle.gbtf.specs.GreenAt.{DH, DV, GH, GV, green_at, exact_green_at}
 use Rattle.green_rule.specs.Greens.{greens, exact_greens}
 use Rattle.demosaic.specs.Sample.{sample}
 use Rattle.demosaic.specs.Exact.{exact_sample}
@@ -27,7 +27,7 @@ use Rattle.figures.specs.Figures.{frame8}
 use Rattle.figures.specs.Sharpness.{readings51}
 
 pub not-51 : Within (natural (sample (frame8 0) 0 readings51 Green 2 2)) (exact_sample (frame8 0) 0 readings51 Green 2 2) 51 100 → ⊥
-unfolding colours colour_at reflect mirror row_of difference fusion green DH DV Gh GV green_at greens sum_over/t² exact_green exact_green_at exact_greens sample exact_sample
+unfolding colours colour_at reflect mirror row_of difference fusion green DH DV GH GV green_at greens sum_over/t² exact_green exact_green_at exact_greens sample exact_sample
 not-51 h = le→leb _ _ h.low
 
 -- a strip call over the whole frame accepts it

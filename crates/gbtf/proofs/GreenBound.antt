@@ -11,7 +11,7 @@ use Rattle.whole.proofs.FractionLaws.{within_same, within_wider, within-cond}
 use Rattle.bayer.specs.Mosaic.{Mosaic, is_green}
 use Rattle.gbtf.specs.Bounds.{most_difference, most_plain_gradient, most_gradient, most_sum}
 use Rattle.gbtf.specs.Direction.{direction_sum, total}
-use Rattle.gbtf.specs.GreenAt.{difference_along, plain_gradient_along, gradient_along, DH, DV, Gh, GV, window, east, west, north, south, green_at, exact_green_at}
+use Rattle.gbtf.specs.GreenAt.{difference_along, plain_gradient_along, gradient_along, DH, DV, GH, GV, window, east, west, north, south, green_at, exact_green_at}
 use Rattle.gbtf.proofs.PixelBounds.{difference-within, plain-gradient-within, gradient-within, direction-sum-within, five-sum-within}
 use Rattle.gbtf.proofs.GreenError.{green-within}
 
@@ -44,8 +44,8 @@ module _ (m : Mosaic) (range : (i j : ℤ) → m.reading i j ≤ 4095) where
   unfolding DV
   DV-bound i j = along-bound (λ k. is_green m k j) (λ k. m.reading k j) (λ k. range k j) i
 
-  GH-bound : (i j : ℤ) → Gh m i j ≤ most_gradient
-  unfolding Gh
+  GH-bound : (i j : ℤ) → GH m i j ≤ most_gradient
+  unfolding GH
   GH-bound i j = gradient-bound (λ k. DH m i k) (λ k. DH-bound i k) j
 
   GV-bound : (i j : ℤ) → GV m i j ≤ most_gradient
@@ -54,7 +54,7 @@ module _ (m : Mosaic) (range : (i j : ℤ) → m.reading i j ≤ 4095) where
 
   -- of each direction
   pub direction-sums-bound : (ws : List ℕ) (i j : ℤ) → ((east ws m i j).sum ≤ most_sum) × ((west ws m i j).sum ≤ most_sum) × ((north ws m i j).sum ≤ most_sum) × ((south ws m i j).sum ≤ most_sum)
-  direction-sums-bound ws i j = (sum_bound (Gh m) GH-bound _ _, sum_bound (Gh m) GH-bound _ _, sum_bound (GV m) GV-bound _ _, sum_bound (GV m) GV-bound _ _)
+  direction-sums-bound ws i j = (sum_bound (GH m) GH-bound _ _, sum_bound (GH m) GH-bound _ _, sum_bound (GV m) GV-bound _ _, sum_bound (GV m) GV-bound _ _)
 
   pub green_at-sharp : (ws : List ℕ) (hT : 0 < total ws) (K : ℕ) → 0 < K → (i j : ℤ) → WithinSharp K (green_at ws m i j K) (exact_green_at ws m i j hT)
   unfolding green_at exact_green_at

@@ -15,7 +15,7 @@ use Rattle.gbtf.specs.Difference.{difference, plain_gradient}
 use Rattle.gbtf.specs.Direction.{direction_sum, five_sum, total, direction}
 use Rattle.gbtf.specs.Fusion.{green}
 use Rattle.gbtf.specs.Exact.{exact_green}
-use Rattle.gbtf.specs.GreenAt.{plain_gradient_along, gradient_along, DH, DV, Gh, GV, three_from, window, east, west, north, south, green_at, exact_green_at}
+use Rattle.gbtf.specs.GreenAt.{plain_gradient_along, gradient_along, DH, DV, GH, GV, three_from, window, east, west, north, south, green_at, exact_green_at}
 
 -- five-sums of differences that are the same
 pub five-sum-same : (ws : List ℕ) (D E : ℕ → ℤ) → ((k : ℕ) → k ≤ 4 → D k ≡ E k) → five_sum ws D ≡ five_sum ws E
@@ -42,8 +42,8 @@ module _ (colour : ℤ → ℤ → Colour) (m n : ℤ → ℤ → ℕ) (i : ℤ)
       λ t j. difference (is_green x r j) (agree r (wider 7 r h (lit≤ tt)) t j) (agree (r -ℤ pos 1) (minus 7 1 r h (lit≤ tt)) t j) (agree (r +ℤ pos 1) (plus 7 1 r h (lit≤ tt)) t j)
       (agree (r -ℤ pos 2) (minus 7 2 r h (lit≤ tt)) t j) (agree (r +ℤ pos 2) (plus 7 2 r h (lit≤ tt)) t j)
 
-  GH-same : (r : ℤ) → Near 7 i r → Gh x r ≡ Gh y r
-  unfolding Gh
+  GH-same : (r : ℤ) → Near 7 i r → GH x r ≡ GH y r
+  unfolding GH
   GH-same r h = λ t j. gradient_along (DH-same r h t) j
 
   plain-same : (r : ℤ) → Near 4 i r → (j : ℤ) → plain_gradient_along (λ k. DV x k j) r ≡ plain_gradient_along (λ k. DV y k j) r
@@ -55,8 +55,8 @@ module _ (colour : ℤ → ℤ → Colour) (m n : ℤ → ℤ → ℕ) (i : ℤ)
 
   module _ (ws : List ℕ) (r : ℤ) (h : Near 1 i r) (j : ℤ) where
     -- the gradients along rows r − 1 to r + 1, from any column on
-    GH-window-same : (k : ℤ) → direction_sum (window (Gh x) (r -ℤ pos 1) k) ≡ direction_sum (window (Gh y) (r -ℤ pos 1) k)
-    GH-window-same k = window_same (Gh x) (Gh y) (r -ℤ pos 1) k (GH-same _ (minus 7 1 r h (lit≤ tt))) (GH-same _ (back 7 1 1 r h (lit≤ tt) (lit≤ tt))) (GH-same _ (back 7 1 2 r h (lit≤ tt) (lit≤ tt)))
+    GH-window-same : (k : ℤ) → direction_sum (window (GH x) (r -ℤ pos 1) k) ≡ direction_sum (window (GH y) (r -ℤ pos 1) k)
+    GH-window-same k = window_same (GH x) (GH y) (r -ℤ pos 1) k (GH-same _ (minus 7 1 r h (lit≤ tt))) (GH-same _ (back 7 1 1 r h (lit≤ tt) (lit≤ tt))) (GH-same _ (back 7 1 2 r h (lit≤ tt) (lit≤ tt)))
 
     east-same : east ws x r j ≡ east ws y r j
     east-same = ap₂ direction (five-sum-same ws _ _ (λ k l. ap (λ D. D (j +ℤ pos k)) (DH-same r (wider 7 r h (lit≤ tt))))) (GH-window-same j)

@@ -16,7 +16,7 @@ use Rattle.gbtf.specs.declared.direction.Direction.{Direction}
 use Rattle.gbtf.specs.Direction.{direction_sum, five_sum, guarded_sum}
 use Rattle.gbtf.specs.Fusion.{smallest_sum, share, fusion, green}
 use Rattle.gbtf.specs.Exact.{sum_of_a/t², sum_of1/t², above0, exact_green}
-use Rattle.gbtf.specs.GreenAt.{gradient_along, DH, DV, Gh, GV, window, east, west, north, south, green_at, exact_green_at}
+use Rattle.gbtf.specs.GreenAt.{gradient_along, DH, DV, GH, GV, window, east, west, north, south, green_at, exact_green_at}
 use Rattle.gbtf.specs.Weights.{even_weights, tapered_weights}
 use Rattle.gbtf.proofs.Mean.{attained, least-pos, shares-least}
 
@@ -37,8 +37,8 @@ gradient-five D k = λ t. nat_abs (D (back-two t) -ℤ D (back-again t)) + nat_a
     on-two = eq-by (anyₚ k +ₚ natₚ 1 +ₚ natₚ 1) (anyₚ k +ₚ natₚ 2) (omega arith)
 
 module _ (x : Mosaic) (i j : ℤ) where
-  pub GH-printed : Gh x i j ≡ nat_abs (DH x i (j -ℤ pos 2) -ℤ DH x i j) + nat_abs (DH x i (j -ℤ pos 1) -ℤ DH x i (j +ℤ pos 1)) + nat_abs (DH x i j -ℤ DH x i (j +ℤ pos 2))
-  unfolding Gh
+  pub GH-printed : GH x i j ≡ nat_abs (DH x i (j -ℤ pos 2) -ℤ DH x i j) + nat_abs (DH x i (j -ℤ pos 1) -ℤ DH x i (j +ℤ pos 1)) + nat_abs (DH x i j -ℤ DH x i (j +ℤ pos 2))
+  unfolding GH
   GH-printed = gradient-five (λ k. DH x i k) j
 
   pub GV-printed : GV x i j ≡ nat_abs (DV x (i -ℤ pos 2) j -ℤ DV x i j) + nat_abs (DV x (i -ℤ pos 1) j -ℤ DV x (i +ℤ pos 1) j) + nat_abs (DV x i j -ℤ DV x (i +ℤ pos 2) j)
@@ -100,10 +100,10 @@ four-directions K T c e w n s = ap (λ z. clamp (pos (16 * c) +ℤ z)) (ap₂ (�
 -- the guarded sums t of the four directions, the smallest m, the shares q with document 02's scale, their sum S; and N, by how the five differences of a direction make its A
 module _ (x : Mosaic) (i j : ℤ) where
   abbrev pub te : ℕ
-  te = max (direction_sum (window (Gh x) (i -ℤ pos 1) j)) 4
+  te = max (direction_sum (window (GH x) (i -ℤ pos 1) j)) 4
 
   abbrev pub tw : ℕ
-  tw = max (direction_sum (window (Gh x) (i -ℤ pos 1) (j -ℤ pos 2))) 4
+  tw = max (direction_sum (window (GH x) (i -ℤ pos 1) (j -ℤ pos 2))) 4
 
   abbrev pub tn : ℕ
   tn = max (direction_sum (window (GV x) (i -ℤ pos 2) (j -ℤ pos 1))) 4

@@ -25,8 +25,8 @@ module _ (m : Mosaic) where
   unfoldable pub DH : (i j : ℤ) → ℤ
   DH i j = difference_along (λ k. is_green m i k) (λ k. m.reading i k) j
 
-  unfoldable pub Gh : (i j : ℤ) → ℕ
-  Gh i j = gradient_along (λ k. DH i k) j
+  unfoldable pub GH : (i j : ℤ) → ℕ
+  GH i j = gradient_along (λ k. DH i k) j
 
   -- along a column
   unfoldable pub DV : (i j : ℤ) → ℤ
@@ -45,10 +45,10 @@ window G i j = three_from (G i) j ∷ three_from (G (i +ℤ pos 1)) j ∷ three_
 -- the four directions. Source 004's equation 9 prints the five-sums of east and west crossed; source 000, equation 31, decides
 module _ (ws : List ℕ) (m : Mosaic) (i j : ℤ) where
   abbrev pub east : Direction
-  east = direction (five_sum ws (λ k. DH m i (j +ℤ pos k))) (direction_sum (window (Gh m) (i -ℤ pos 1) j))
+  east = direction (five_sum ws (λ k. DH m i (j +ℤ pos k))) (direction_sum (window (GH m) (i -ℤ pos 1) j))
 
   abbrev pub west : Direction
-  west = direction (five_sum ws (λ k. DH m i (j -ℤ pos k))) (direction_sum (window (Gh m) (i -ℤ pos 1) (j -ℤ pos 2)))
+  west = direction (five_sum ws (λ k. DH m i (j -ℤ pos k))) (direction_sum (window (GH m) (i -ℤ pos 1) (j -ℤ pos 2)))
 
   abbrev pub north : Direction
   north = direction (five_sum ws (λ k. DV m (i -ℤ pos k) j)) (direction_sum (window (GV m) (i -ℤ pos 2) (j -ℤ pos 1)))

@@ -14,7 +14,7 @@ use Rattle.bayer.specs.Parity.{is_odd}
 use Rattle.gbtf.specs.Direction.{direction_sum, total, direction}
 use Rattle.gbtf.specs.Difference.{turned}
 use Rattle.gbtf.specs.Fusion.{fused, green}
-use Rattle.gbtf.specs.GreenAt.{DH, DV, Gh, GV, three_from, window, east, west, north, south, green_at}
+use Rattle.gbtf.specs.GreenAt.{DH, DV, GH, GV, three_from, window, east, west, north, south, green_at}
 use Rattle.gbtf.proofs.GreenLocal.{five-sum-same}
 use Rattle.half_rows.proofs.HalfLaws.{choice-same}
 use Rattle.green_row.specs.Directions.{three_in, window_in, direction_in}
@@ -62,7 +62,7 @@ pub record RowHolds (m : Mosaic) (v w s o : ℕ) (own : List ℕ) (dh dv : List 
   pub green-at : (j : ℕ) → j < w → is_odd (j + o) ≡ is_green m (pos v) (pos j)
   pub dh-at : (r c p : ℕ) → r < 3 → c + 4 < s → p % 2 ≡ (r + c + o) % 2 → turned (is_odd p) (get_or dh (r * s + (c + 2)) (pos 0)) ≡ DH m (sub_ℕ (v + (5 + r)) 6) (sub_ℕ (c + 2) 7)
   pub dv-at : (r c p : ℕ) → r < 9 → c < s → p % 2 ≡ (r + c + 1 + o) % 2 → turned (is_odd p) (get_or dv (r * s + c) (pos 0)) ≡ DV m (sub_ℕ (v + (r + 2)) 6) (sub_ℕ c 7)
-  pub gh-at : (r c : ℕ) → r < 3 → c + 8 < s → get_or gh (r * s + (c + 2)) 0 ≡ Gh m (sub_ℕ (v + (5 + r)) 6) (sub_ℕ (c + 4) 7)
+  pub gh-at : (r c : ℕ) → r < 3 → c + 8 < s → get_or gh (r * s + (c + 2)) 0 ≡ GH m (sub_ℕ (v + (5 + r)) 6) (sub_ℕ (c + 4) 7)
   pub gv-at : (r c : ℕ) → r < 5 → c < s → get_or gv (r * s + c) 0 ≡ GV m (sub_ℕ (v + (r + 4)) 6) (sub_ℕ c 7)
   pub tv-at : (q k : ℕ) → q < 2 → k < (w + 1) / 2 → get_or tv (2 * q * ((w + 1) / 2) + k) 0 ≡ direction_sum (window_in s gv (2 * q * s + (2 * k + o + 6)))
 
@@ -81,12 +81,12 @@ module _ {m : Mosaic} {v w s o : ℕ} {own : List ℕ} {dh dv : List ℤ} {gh gv
   back : (k : ℕ) → k ≤ 4 → sub_ℕ (j + 5 - k + 2) 7 ≡ pos j -ℤ pos k
   back k h = eq-by (subₚ (j + 5 - k + 2) 7) (natₚ j -ₚ natₚ k) (omega arith)
 
-  gh-window : (q c : ℕ) → q ≡ c + 2 → c + 10 < s → window_in s gh q ≡ window (Gh m) (pos v -ℤ pos 1) (sub_ℕ (c + 4) 7)
+  gh-window : (q c : ℕ) → q ≡ c + 2 → c + 10 < s → window_in s gh q ≡ window (GH m) (pos v -ℤ pos 1) (sub_ℕ (c + 4) 7)
   gh-window q c a h =
-      window-at s gh (Gh m) q (v + 5) 6 (c + 4) 7
+      window-at s gh (GH m) q (v + 5) 6 (c + 4) 7
       (λ r e k l. (let i : q + r * s + e ≡ r * s + (c + e + 2) = omega arith in ap (λ n. get_or gh n 0) i) ∙ z.gh-at r (c + e) k (omega arith)
-      ∙ ap₂ (λ y z. Gh m (sub_ℕ y 6) (sub_ℕ z 7)) (let b : v + (5 + r) ≡ v + 5 + r = omega arith in b) (let d : c + e + 4 ≡ c + 4 + e = omega arith in d))
-      ∙ ap (λ z. window (Gh m) z (sub_ℕ (c + 4) 7)) (eq-by (subₚ (v + 5) 6) (natₚ v -ₚ natₚ 1) (omega arith))
+      ∙ ap₂ (λ y z. GH m (sub_ℕ y 6) (sub_ℕ z 7)) (let b : v + (5 + r) ≡ v + 5 + r = omega arith in b) (let d : c + e + 4 ≡ c + 4 + e = omega arith in d))
+      ∙ ap (λ z. window (GH m) z (sub_ℕ (c + 4) 7)) (eq-by (subₚ (v + 5) 6) (natₚ v -ₚ natₚ 1) (omega arith))
 
   gv-window : (q p : ℕ) → (i : ℕ) → q ≡ i * s + (j + 6) → i ≤ 2 → p ≡ v + (i + 4) → window_in s gv q ≡ window (GV m) (sub_ℕ p 6) (pos j -ℤ pos 1)
   gv-window q p i a h b =
@@ -108,13 +108,13 @@ module _ {m : Mosaic} {v w s o : ℕ} {own : List ℕ} {dh dv : List ℤ} {gh gv
   east-is = ap₂ direction
       (five-sum-same ws _ _ (λ k l. (let a : s + (j + 7) + k * 1 ≡ 1 * s + (j + 5 + k + 2) = omega arith in ap (λ n. turned (is_odd k) (get_or dh n (pos 0))) a)
       ∙ z.dh-at 1 (j + 5 + k) k (lit≤ tt) (omega arith) (omega arith) ∙ ap₂ (DH m) here (onward k)))
-      (ap direction_sum (gh-window (j + 5) (j + 3) (omega arith) (omega arith) ∙ ap (window (Gh m) (pos v -ℤ pos 1)) (eq-by (subₚ (j + 3 + 4) 7) (natₚ j) (omega arith))))
+      (ap direction_sum (gh-window (j + 5) (j + 3) (omega arith) (omega arith) ∙ ap (window (GH m) (pos v -ℤ pos 1)) (eq-by (subₚ (j + 3 + 4) 7) (natₚ j) (omega arith))))
 
   west-is : direction_in ws s h dh dv gh tv j 1 ≡ west ws m (pos v) (pos j)
   west-is = ap₂ direction
       (five-sum-same ws _ _ (λ k l. (let a : s + (j + 7) - k * 1 ≡ 1 * s + (j + 5 - k + 2) = omega arith in ap (λ n. turned (is_odd k) (get_or dh n (pos 0))) a)
       ∙ z.dh-at 1 (j + 5 - k) k (lit≤ tt) (omega arith) (omega arith) ∙ ap₂ (DH m) here (back k l)))
-      (ap direction_sum (gh-window (j + 3) (j + 1) (omega arith) (omega arith) ∙ ap (window (Gh m) (pos v -ℤ pos 1)) (eq-by (subₚ (j + 1 + 4) 7) (natₚ j -ₚ natₚ 2) (omega arith))))
+      (ap direction_sum (gh-window (j + 3) (j + 1) (omega arith) (omega arith) ∙ ap (window (GH m) (pos v -ℤ pos 1)) (eq-by (subₚ (j + 1 + 4) 7) (natₚ j -ₚ natₚ 2) (omega arith))))
 
   north-is : direction_in ws s h dh dv gh tv j 2 ≡ north ws m (pos v) (pos j)
   north-is = ap₂ direction

@@ -22,7 +22,7 @@ use Rattle.bayer.specs.Lent.{Lent}
 use Rattle.bayer.proofs.ParityLaws.{odd-by, place-green}
 use Rattle.gbtf.specs.Difference.{difference, plain_gradient, turned}
 use Rattle.gbtf.proofs.Signs.{difference-turned, plain-turned}
-use Rattle.gbtf.specs.GreenAt.{difference_along, plain_gradient_along, gradient_along, DH, DV, Gh, GV}
+use Rattle.gbtf.specs.GreenAt.{difference_along, plain_gradient_along, gradient_along, DH, DV, GH, GV}
 use Rattle.green_row.specs.AlongAxis.{difference_in, plain_gradient_in, gradient_in}
 use Rattle.green_row.specs.Extended.{extended_row}
 
@@ -151,8 +151,8 @@ module _ {f : Frame} {first : ℕ} {rows : List ℕ} {v s : ℕ} (z : RowPlaces 
     abbrev gh : List ℕ
     gh = table (gradient_in 1 dh) (3 * s - 4)
 
-    pub GH-at : (r c : ℕ) → r < 3 → c + 8 < s → get_or gh (r * s + (c + 2)) 0 ≡ Gh m (Row (5 + r)) (Col (c + 4))
-    unfolding Gh
+    pub GH-at : (r c : ℕ) → r < 3 → c + 8 < s → get_or gh (r * s + (c + 2)) 0 ≡ GH m (Row (5 + r)) (Col (c + 4))
+    unfolding GH
     GH-at r c h k =
         let b : c + 2 + 2 ≡ c + 4 = omega arith in
         get_or-table (gradient_in 1 dh) (3 * s - 4) (r * s + (c + 2)) 0 (omega (arith, mul-le-mul_right s h))

@@ -8,7 +8,7 @@ use Rattle.bayer.specs.Colour.{colours, colour_at}
 use Rattle.bayer.specs.Mirror.{reflect, mirror}
 use Rattle.gbtf.specs.Difference.{difference}
 use Rattle.gbtf.specs.Fusion.{fusion, green}
-use Rattle.gbtf.specs.GreenAt.{DH, DV, Gh, GV, green_at}
+use Rattle.gbtf.specs.GreenAt.{DH, DV, GH, GV, green_at}
 use Rattle.green_rule.specs.Greens.{greens}
 use Rattle.demosaic.specs.Fill.{fill}
 use Rattle.demosaic.specs.Sample.{neighbours, other_from, sample}
@@ -29,35 +29,35 @@ planes-hold : (c : PlanesClaim) → T (greens_hold c) → ColoursHold c → plan
 planes-hold (gives_planes f readings red green blue) g t = planes-are f readings (listed f green) g (listed f red) (listed f blue) t.0 t.1
 
 greens₀ : T (greens_hold planes₀)
-unfolding colours colour_at reflect mirror row_of difference fusion green DH DV Gh GV green_at greens sample
+unfolding colours colour_at reflect mirror row_of difference fusion green DH DV GH GV green_at greens sample
 greens₀ = tt
 
 greens₁ : T (greens_hold planes₁)
-unfolding colours colour_at reflect mirror row_of difference fusion green DH DV Gh GV green_at greens sample
+unfolding colours colour_at reflect mirror row_of difference fusion green DH DV GH GV green_at greens sample
 greens₁ = tt
 
 greens₂ : T (greens_hold planes₂)
-unfolding colours colour_at reflect mirror row_of difference fusion green DH DV Gh GV green_at greens sample
+unfolding colours colour_at reflect mirror row_of difference fusion green DH DV GH GV green_at greens sample
 greens₂ = tt
 
 greens₃ : T (greens_hold planes₃)
-unfolding colours colour_at reflect mirror row_of difference fusion green DH DV Gh GV green_at greens sample
+unfolding colours colour_at reflect mirror row_of difference fusion green DH DV GH GV green_at greens sample
 greens₃ = tt
 
 greens₄ : T (greens_hold planes₄)
-unfolding colours colour_at reflect mirror row_of difference fusion green DH DV Gh GV green_at greens sample
+unfolding colours colour_at reflect mirror row_of difference fusion green DH DV GH GV green_at greens sample
 greens₄ = tt
 
 greens₅ : T (greens_hold planes₅)
-unfolding colours colour_at reflect mirror row_of difference fusion green DH DV Gh GV green_at greens sample
+unfolding colours colour_at reflect mirror row_of difference fusion green DH DV GH GV green_at greens sample
 greens₅ = tt
 
 greens₆ : T (greens_hold planes₆)
-unfolding colours colour_at reflect mirror row_of difference fusion green DH DV Gh GV green_at greens sample
+unfolding colours colour_at reflect mirror row_of difference fusion green DH DV GH GV green_at greens sample
 greens₆ = tt
 
 greens₇ : T (greens_hold planes₇)
-unfolding colours colour_at reflect mirror row_of difference fusion green DH DV Gh GV green_at greens sample
+unfolding colours colour_at reflect mirror row_of difference fusion green DH DV GH GV green_at greens sample
 greens₇ = tt
 
 pub worked-planes-hold : Every planes_hold worked_planes

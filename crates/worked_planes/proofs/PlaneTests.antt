@@ -13,7 +13,6 @@ use Rattle.bayer.specs.declared.colour.Colour.{Colour}
 use Rattle.bayer.specs.declared.colour.Colour.TheVariants.{Red, Green, Blue}
 use Rattle.bayer.specs.declared.frame.Frame.{Frame}
 use Rattle.bayer.specs.Mosaic.{Mosaic, continued}
-use Rattle.green_rule.specs.Greens.{greens}
 use Rattle.demosaic.specs.Sample.{sample_from, sample}
 use Rattle.demosaic.proofs.SampleInside.{sample_from-inside}
 use Rattle.worked_planes.specs.Rule.{rule_sample, all, plane_is, PlanesAre}

@@ -1,5 +1,5 @@
 -- Where the check says 0 both planes have the row, and the partner tells which is shown. Assumes nothing.
-use Rattle.std.proofs.Common.{◌∙◌, sym, arith}
+use Rattle.std.proofs.Common.{◌∙◌, sym}
 use Rattle.bayer.proofs.ViewLaws.{partner-in}
 use Rattle.bayer.proofs.view.partner_view.Goals as goal
 

@@ -1,5 +1,5 @@
 -- The frame's readings fit the room. Assumes nothing.
-use Rattle.std.proofs.Common.{◌*◌, ◌≡◌, ◌∙◌, sym, ap, arith}
+use Rattle.std.proofs.Common.{◌≡◌, ◌∙◌, sym, ap, arith}
 use mathlib.Core.Path.{ap₂}
 use Rattle.bayer.specs.declared.frame.Frame.{Frame}
 use Rattle.bayer.specs.Refusal.{first_of}
