@@ -1,3 +1,4 @@
+pub mod SmallerLaws
 pub mod ShareLaws
 pub mod MeanLaws
 pub mod LiftLaws

@@ -23,6 +23,7 @@ fn guarded_sum(d: Direction) -> f64
     t
 }
 
+#[tactic(auto, using(crate::proofs::SmallerLaws::smaller_first, crate::proofs::SmallerLaws::smaller_second))]
 fn smaller(a: f64, b: f64) -> f64
     requires { (WholeUpTo most_sum a) × (WholeUpTo most_sum b) }
     ensures { (WholeUpTo most_sum result) × (val result ≡ min (val a) (val b)) }
