@@ -13,7 +13,7 @@ use Rattle.lists.specs.Table.{table, joined}
 use Rattle.lists.specs.Bound.{AllAtMost}
 use Rattle.lists.proofs.TableLaws.{table_same}
 use Rattle.lists.proofs.JoinedLaws.{joined_same, get_or-parts, part-within}
-use Rattle.lists.proofs.PartLaws.{get_d_part}
+use Rattle.lists.proofs.PartLaws.{get_or_part}
 use Rattle.lists.proofs.BoundLaws.{all-parts, row-at-most}
 use Rattle.bayer.specs.declared.frame.Frame.{Frame}
 use Rattle.bayer.specs.Mirror.{mirror}
@@ -118,13 +118,13 @@ module _ (f : Frame) (first : ℕ) (rows : List ℕ) (v b : ℕ) where
   five-at side {l} e i hi r k hr hk =
       let a : i * H + (r * H + k) ≡ (i + r) * H + k = omega arith in
       let c : v + (i + r) ≡ v + i + r = omega arith in
-      get_d_part (i * H) (5 * H) l (r * H + k) 0 (omega (arith, part-within H hr)) ∙ ap₂ (λ l n. get_or l n 0) e a
+      get_or_part (i * H) (5 * H) l (r * H + k) 0 (omega (arith, part-within H hr)) ∙ ap₂ (λ l n. get_or l n 0) e a
       ∙ get_or-parts (λ r k. m.reading (sub_ℕ (v + r) 2) (sub_ℕ (2 * k + side) 2)) H (b + 4) (i + r) k 0 (omega arith) hk
       ∙ ap (λ n. m.reading (sub_ℕ n 2) (sub_ℕ (2 * k + side) 2)) c
 
   -- of which one is its own
   own_at : (side : ℕ) {l : List ℕ} → Held side l → (i : ℕ) → i < b → (k : ℕ) → k < H → get_or (part (2 * H) H (part (i * H) (5 * H) l)) k 0 ≡ m.reading (sub_ℕ (v + i + 2) 2) (sub_ℕ (2 * k + side) 2)
-  own_at side {l} e i hi k hk = get_d_part (2 * H) H (part (i * H) (5 * H) l) k 0 hk ∙ five-at side e i hi 2 k (lit≤ tt) hk
+  own_at side {l} e i hi k hk = get_or_part (2 * H) H (part (i * H) (5 * H) l) k 0 hk ∙ five-at side e i hi 2 k (lit≤ tt) hk
 
   module _ {e o : List ℕ} (e-is : Held 0 e) (o_is : Held 1 o) (lent : (i : ℕ) → i < b → Lent f first (length rows) (v + i)) where
     row_is : (i : ℕ) → i < b → (side : ℕ) → side < 2 → ((j : ℕ) → is_odd (j + side) ≡ is_green m (pos (v + i)) (pos j))

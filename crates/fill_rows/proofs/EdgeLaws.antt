@@ -11,7 +11,7 @@ use Rattle.whole.proofs.Pairs.{sub-pos, natₚ, ◌-ₚ◌, within_by}
 use Rattle.lists.specs.Table.{table}
 use Rattle.lists.specs.Bound.{AllAtMost}
 use Rattle.lists.proofs.TableLaws.{length-table, get_or-table, table_same}
-use Rattle.lists.proofs.PartLaws.{placed, get_d_part}
+use Rattle.lists.proofs.PartLaws.{placed, get_or_part}
 use Rattle.bayer.specs.Mirror.{mirror}
 use Rattle.bayer.proofs.MirrorLaws.{once-below, once-above}
 use Rattle.demosaic.specs.Fill.{colour_difference}
@@ -134,7 +134,7 @@ module _ (w side : ℕ) (x g : List ℕ) where
       inner : (k : ℕ) → k < n → colour_difference_at (take (length x - side) (drop side x)) (take (length g - side) (drop side g)) (2 * k) ≡ rule (1 + k)
       inner k l =
           let p : side + 2 * k ≡ 2 * min (1 + k - 1) (m - 1) + side = omega arith in
-          ap₂ colour_difference (get_d_part side (length g - side) g (2 * k) 0 (omega arith)) (get_d_part side (length x - side) x (2 * k) 0 (omega arith)) ∙ ap (colour_difference_at x g) p
+          ap₂ colour_difference (get_or_part side (length g - side) g (2 * k) 0 (omega arith)) (get_or_part side (length x - side) x (2 * k) 0 (omega arith)) ∙ ap (colour_difference_at x g) p
 
   -- ---- what it has at a column of its pixels, and left and right of another
 

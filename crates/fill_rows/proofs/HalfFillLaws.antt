@@ -9,7 +9,7 @@ use lib.Seq.{length-take-le, take_at}
 use Rattle.lists.specs.Table.{table}
 use Rattle.lists.specs.Bound.{AllWithin}
 use Rattle.lists.proofs.TableLaws.{length-table, table_same}
-use Rattle.lists.proofs.PartLaws.{get_d_part}
+use Rattle.lists.proofs.PartLaws.{get_or_part}
 use Rattle.lists.proofs.BoundLaws.{all-part}
 use Rattle.half_rows.specs.HalfRow.{pixels, interleaved}
 use Rattle.half_rows.proofs.HalfLaws.{choice-same, from_halves}
@@ -23,7 +23,7 @@ abbrev from : {A : Type 0} → (a : ℕ) → List A → List A
 from a l = take (length l - a) (drop a l)
 
 from_at : {A : Type 0} (a : ℕ) (l : List A) (k n : ℕ) (d : A) → a + k < length l → a + k ≡ n → get_or (from a l) k d ≡ get_or l n d
-from_at a l k n d h e = get_d_part a (length l - a) l k d (omega arith) ∙ ap (λ i. get_or l i d) e
+from_at a l k n d h e = get_or_part a (length l - a) l k d (omega arith) ∙ ap (λ i. get_or l i d) e
 
 pub within-from : (a : ℕ) (l : List ℤ) → AllWithin 1048560 l → AllWithin 1048560 (from a l)
 within-from a l h = all-part (λ z. nat_abs z ≤ 1048560) (pos 0) (omega arith) a (length l - a) l h

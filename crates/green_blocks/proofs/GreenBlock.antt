@@ -13,7 +13,7 @@ use Rattle.lists.specs.Table.{table, joined}
 use Rattle.lists.specs.Bound.{AllAtMost, AllWithin}
 use Rattle.lists.proofs.TableLaws.{length-table, table_same, table-part}
 use Rattle.lists.proofs.JoinedLaws.{joined_same, joined-rows, length-joined, parts, get_or-parts, part-within}
-use Rattle.lists.proofs.PartLaws.{part_length, first_part, rest_part, other-part, get_d_part, part-part}
+use Rattle.lists.proofs.PartLaws.{part_length, first_part, rest_part, other-part, get_or_part, part-part}
 use Rattle.lists.proofs.BoundLaws.{all-part, all-parts}
 use Rattle.bayer.specs.declared.frame.Frame.{Frame}
 use Rattle.bayer.specs.Mirror.{mirror}
@@ -49,7 +49,7 @@ window-part : (s : ℕ) (g : List ℕ) (a n p : ℕ) → p + 2 * s + 2 < n → w
 window-part s g a n p h = λ t. row p (a + p) (omega arith) refl t ∷ row (p + s) (a + p + s) (omega arith) (omega arith) t ∷ row (p + 2 * s) (a + p + 2 * s) (omega arith) (omega arith) t ∷ []
   where
     at : (k q : ℕ) → k < n → q ≡ a + k → get_or g q 0 ≡ get_or (part a n g) k 0
-    at k q l e = ap (λ i. get_or g i 0) e ∙ sym (get_d_part a n g k 0 l)
+    at k q l e = ap (λ i. get_or g i 0) e ∙ sym (get_or_part a n g k 0 l)
 
     row : (k q : ℕ) → k + 2 < n → q ≡ a + k → three_in g q ≡ three_in (part a n g) k
     row k q l e = λ t. at k q (omega arith) e t ∷ at (k + 1) (q + 1) (omega arith) (omega arith) t ∷ at (k + 2) (q + 2) l (omega arith) t ∷ []
@@ -166,14 +166,14 @@ module _ {f : Frame} {first : ℕ} {rows : List ℕ} {v b s o : ℕ} {x : List �
     below = part-within s hi
 
     x'-at : (k : ℕ) → k < 13 * s → get_or x' k 0 ≡ get_or x (i * s + k) 0
-    x'-at k h = get_d_part (i * s) (13 * s) x k 0 h
+    x'-at k h = get_or_part (i * s) (13 * s) x k 0 h
 
     -- the place of difference e from place j on
     hx-at : (j e : ℕ) → j < 3 * s → e ≤ 4 → get_or hx (i * s + j + e * 1) 0 ≡ get_or (part (5 * s - 2) (3 * s + 4) x') (j + e * 1) 0
     hx-at j e h l =
         let a : 5 * s - 2 + (i * s + j + e * 1) ≡ i * s + (5 * s - 2 + (j + e * 1)) = omega (arith, z.wide) in
-        get_d_part (5 * s - 2) (m + 2 * s + 4) x (i * s + j + e * 1) 0 (omega (arith, below)) ∙ ap (λ n. get_or x n 0) a
-        ∙ sym (get_d_part (5 * s - 2) (3 * s + 4) x' (j + e * 1) 0 (omega arith) ∙ x'-at (5 * s - 2 + (j + e * 1)) (omega (arith, z.wide)))
+        get_or_part (5 * s - 2) (m + 2 * s + 4) x (i * s + j + e * 1) 0 (omega (arith, below)) ∙ ap (λ n. get_or x n 0) a
+        ∙ sym (get_or_part (5 * s - 2) (3 * s + 4) x' (j + e * 1) 0 (omega arith) ∙ x'-at (5 * s - 2 + (j + e * 1)) (omega (arith, z.wide)))
 
     x-at : (j e : ℕ) → j < 9 * s → e ≤ 4 → get_or x (i * s + j + e * s) 0 ≡ get_or x' (j + e * s) 0
     x-at j e h l =
@@ -185,7 +185,7 @@ module _ {f : Frame} {first : ℕ} {rows : List ℕ} {v b s o : ℕ} {x : List �
     gradient-part step n l j h = λ t. plain j (i * s + j) refl (omega arith) t + plain (j + step) (i * s + j + step) (omega arith) (omega arith) t + plain (j + 2 * step) (i * s + j + 2 * step) (omega arith) (omega arith) t
       where
         at : (k a : ℕ) → a ≡ i * s + k → k < n → get_or l a (pos 0) ≡ get_or (part (i * s) n l) k (pos 0)
-        at k a e g = ap (λ a. get_or l a (pos 0)) e ∙ sym (get_d_part (i * s) n l k (pos 0) g)
+        at k a e g = ap (λ a. get_or l a (pos 0)) e ∙ sym (get_or_part (i * s) n l k (pos 0) g)
 
         plain : (k a : ℕ) → a ≡ i * s + k → k + 2 * step < n → plain_gradient_in step l a ≡ plain_gradient_in step (part (i * s) n l) k
         plain k a e g = ap₂ plain_gradient (at k a e (omega arith)) (at (k + 2 * step) (a + 2 * step) (omega arith) g)
@@ -194,7 +194,7 @@ module _ {f : Frame} {first : ℕ} {rows : List ℕ} {v b s o : ℕ} {x : List �
     gv'-at q k l n =
         let a : i * h + (2 * q * h + k) ≡ (i + 2 * q) * h + k = omega arith in
         let c : (i + 2 * q) * s + 6 + (o + (i + 2 * q)) % 2 + 2 * k ≡ i * s + (2 * q * s + (2 * k + o' + 6)) = omega arith in
-        get_d_part (i * h) (3 * h) tv (2 * q * h + k) 0 (omega (arith, mul-le-mul_right h l)) ∙ ap₂ (λ t p. get_or t p 0) (columns tv-is) a
+        get_or_part (i * h) (3 * h) tv (2 * q * h + k) 0 (omega (arith, mul-le-mul_right h l)) ∙ ap₂ (λ t p. get_or t p 0) (columns tv-is) a
         ∙ get_or-parts rule h (b + 2) (i + 2 * q) k 0 (omega arith) n
         ∙ ap direction_sum (ap (window_in s gv) c ∙ window-part s gv (i * s) (5 * s) (2 * q * s + (2 * k + o' + 6)) (omega (arith, z.wide, mul-le-mul_right s l)))
 

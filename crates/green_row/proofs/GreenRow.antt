@@ -8,7 +8,7 @@ use lib.ListN.{get_or}
 use Rattle.lists.specs.Part.{row_of, part}
 use Rattle.lists.specs.Table.{table, joined}
 use Rattle.lists.proofs.TableLaws.{table_same}
-use Rattle.lists.proofs.PartLaws.{get_d_part, row-length}
+use Rattle.lists.proofs.PartLaws.{get_or_part, row-length}
 use Rattle.bayer.specs.declared.frame.Frame.{Frame}
 use Rattle.bayer.specs.Mosaic.{continued, is_green}
 use Rattle.bayer.specs.Parity.{is_odd, starts_green}
@@ -47,7 +47,7 @@ module _ {f : Frame} {first : ℕ} {rows : List ℕ} {v s o : ℕ} {x : List ℕ
   hx = part (5 * s - 2) (3 * s + 4) x
 
   hx-at : (k : ℕ) → k < 3 * s + 4 → get_or hx k 0 ≡ get_or x (5 * s - 2 + k) 0
-  hx-at k l = get_d_part (5 * s - 2) (3 * s + 4) x k 0 l
+  hx-at k l = get_or_part (5 * s - 2) (3 * s + 4) x k 0 l
 
   -- the row's own readings, as the frame has them
   abbrev own : List ℕ

@@ -48,12 +48,12 @@ module _ {A : Type 0} where
       rw (take_at p q n h, drop_at p q n h, drop_of_length-le q l, append-nil r)
 
   -- by its entries
-  pub get_d_part : (a k : ℕ) (l : List A) (j : ℕ) (d : A) → j < k → get_or (part a k l) j d ≡ get_or l (a + j) d
-  get_d_part a k l j d h = get_or-take k (drop a l) j d h ∙ get_or-drop a l j d
+  pub get_or_part : (a k : ℕ) (l : List A) (j : ℕ) (d : A) → j < k → get_or (part a k l) j d ≡ get_or l (a + j) d
+  get_or_part a k l j d h = get_or-take k (drop a l) j d h ∙ get_or-drop a l j d
 
   -- of all from the a-th on
   pub get_or-from : (a : ℕ) (l : List A) (k n : ℕ) (d : A) → a + k < length l → a + k ≡ n → get_or (part a (length l - a) l) k d ≡ get_or l n d
-  get_or-from a l k n d h e = get_d_part a (length l - a) l k d (omega arith) ∙ ap (λ i. get_or l i d) e
+  get_or-from a l k n d h e = get_or_part a (length l - a) l k d (omega arith) ∙ ap (λ i. get_or l i d) e
 
   -- a part of a part
   pub part-part : (a k b n : ℕ) (l : List A) → a + k ≤ n → part a k (part b n l) ≡ part (b + a) k l
@@ -72,4 +72,4 @@ row-length w i rows h = length_part (i * w) w rows (omega arith)
 
 pub row-entry : (w i : ℕ) (rows : List ℕ) (j : ℕ) → j < w → get_or (row_of w i rows) j 0 ≡ get_or rows (i * w + j) 0
 unfolding row_of
-row-entry w i rows j h = get_d_part (i * w) w rows j 0 h
+row-entry w i rows j h = get_or_part (i * w) w rows j 0 h

@@ -8,7 +8,7 @@ use lib.ListN.{length, get_or}
 use lib.Seq.{take_all}
 use Rattle.lists.specs.Part.{part}
 use Rattle.lists.proofs.JoinedLaws.{part-within}
-use Rattle.lists.proofs.PartLaws.{length_part, get_d_part}
+use Rattle.lists.proofs.PartLaws.{length_part, get_or_part}
 use Rattle.bayer.specs.declared.colour.Colour.{Colour}
 use Rattle.bayer.specs.declared.colour.Colour.TheVariants.{Red, Green, Blue}
 use Rattle.bayer.specs.declared.frame.Frame.{Frame}
@@ -35,7 +35,7 @@ rows-length w a n l h = length_part (a * w) (n * w) l (rw (add-mul a n w) at h)
 rows-entry : (w a n : ℕ) (l : List ℕ) (i j : ℕ) → i < n → j < w → get_or (part (a * w) (n * w) l) (i * w + j) 0 ≡ get_or l ((a + i) * w + j) 0
 rows-entry w a n l i j h k =
     let e : a * w + (i * w + j) ≡ (a + i) * w + j = rw (add-mul a i w) (omega arith) in
-    get_d_part (a * w) (n * w) l (i * w + j) 0 (omega (arith, part-within w h)) ∙ ap (λ x. get_or l x 0) e
+    get_or_part (a * w) (n * w) l (i * w + j) 0 (omega (arith, part-within w h)) ∙ ap (λ x. get_or l x 0) e
 
 module _ (f : Frame) (readings : List ℕ) where
   abbrev W : ℕ

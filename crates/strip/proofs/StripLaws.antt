@@ -10,7 +10,7 @@ use lib.ListN.{length, get_or}
 use Rattle.whole.specs.Parts.{up, down}
 use Rattle.whole.proofs.Pairs.{subₚ, differs}
 use Rattle.lists.specs.Bound.{AllAtMost}
-use Rattle.lists.proofs.PartLaws.{part-inside, get_d_part}
+use Rattle.lists.proofs.PartLaws.{part-inside, get_or_part}
 use Rattle.bayer.specs.Mirror.{mirror}
 use Rattle.bayer.specs.declared.frame.Frame.{Frame}
 use Rattle.bayer.specs.Piece.{piece_start, piece_end, piece_rows, piece_of}
@@ -130,4 +130,4 @@ row_read f readings a n w i low high = record { frame = w.frame; inside = omega 
     range j h =
         let at : (i - s) * f.width + j < rows * f.width = omega (arith, mul-le-mul_right f.width row.1) in
         let e : s * f.width + ((i - s) * f.width + j) ≡ i * f.width + j = omega (arith, add-mul s (i - s) f.width, ap (λ x. x * f.width) row.0) in
-        rw (get_d_part (s * f.width) (rows * f.width) readings ((i - s) * f.width + j) 0 at, e) at (w.range ((i - s) * f.width + j))
+        rw (get_or_part (s * f.width) (rows * f.width) readings ((i - s) * f.width + j) 0 at, e) at (w.range ((i - s) * f.width + j))
