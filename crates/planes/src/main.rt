@@ -1,4 +1,4 @@
-// The small program: smallest, largest and sum of each plane of the frame file on standard input. rt check runs it on document 01's example.
+// The small program: smallest, largest and sum of each plane of the frame file on standard input. rt ci runs it on document 01's example.
 #![tactic(auto)]
 
 use std::io;
