@@ -5,7 +5,8 @@ use mathlib.Core.Bool.{Bool, true, false, cond, true≢false}
 use mathlib.Core.List.{List, [], ◌∷◌, ◌++◌}
 use native.Mathlib.Omega.{arith}
 use Rattle.lists.specs.Every.{Every}
-use Rattle.bayer.specs.Refusal.{Refusal, size_out_of_range, unknown_layout, rows_outside_frame, wrong_piece_length, wrong_plane_length, reading_out_of_range, row_missing, malformed_file, not_camera_planes, unknown_smoothing, over_preview_size, number}
+use Rattle.bayer.specs.Refusal.{size_out_of_range, unknown_layout, rows_outside_frame, wrong_piece_length, wrong_plane_length, reading_out_of_range, row_missing, malformed_file, not_camera_planes}
+use Rattle.bayer.specs.Refusal.{Refusal, unknown_smoothing, over_preview_size, number}
 use Rattle.bayer.specs.Refusal.{Case, first_of, held_after, Delivers}
 
 pub number-positive : (r : Refusal) → 0 < number r

@@ -2,6 +2,8 @@
 #![tactic(auto)]
 
 pub mod mosaics;
+#[cfg(test)]
+mod order;
 pub mod pieces;
 pub mod previews;
 pub mod strips;

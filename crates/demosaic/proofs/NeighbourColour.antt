@@ -71,7 +71,8 @@ neighbours-have-colour f hl hH hW first rows k n i j hi hj other = go (is_green 
     left : (z : ℤ) → C z (pos j -ℤ pos 1) ≡ C z (pos j +ℤ pos 1)
     left z = parity-colour _ _ _ _ _ refl (before f.width j hW hj ∙ sym (after f.width j hW hj))
 
-    go : (g r : Bool) → is_green (continued f first rows) (pos i) (pos j) ≡ g → same (C (pos i) (pos j +ℤ pos 1)) k ≡ r → Every (Has f k) (cond g (cond r (in_row f (pos i) (pos j)) (in_column f (pos i) (pos j))) (diagonal f (pos i) (pos j)))
+    go : (g r : Bool) → is_green (continued f first rows) (pos i) (pos j) ≡ g → same (C (pos i) (pos j +ℤ pos 1)) k ≡ r
+        → Every (Has f k) (cond g (cond r (in_row f (pos i) (pos j)) (in_column f (pos i) (pos j))) (diagonal f (pos i) (pos j)))
     go true true g r = let e = rw (g, r) at chosen in (left _ ∙ e, (e, tt))
     go true false g r = let e = rw (g, r) at chosen in (up _ ∙ e, (e, tt))
     go false r g q = let e = rw (g, other) at chosen in (up _ ∙ left _ ∙ e, (up _ ∙ e, (left _ ∙ e, (e, tt))))

@@ -1,10 +1,10 @@
 -- Signed code by reflection. A term `E w` mirrors an expression of the code at the width w, with a bound on the magnitude of each leaf.
 --     lit, nat, int, raw   a literal; an unsigned value cast to signed; a signed value; the bits that a loop's variable holds
 --     «as» v e             e, computed at the width v, and cast
---     _⊕_, _⊖_, _⊗_        the operations
---     bits e, val e        what the machine holds, as a need's goal shows it; the integer that e means
+--     ◌⊕◌, ◌⊖◌, ◌⊗◌        the operations
+--     bits e, val e        what the machine holds, as a goal shows it; the integer that e means
 --     bound e, ok e        a bound on its magnitude, computed from the leaves' bounds; the computed test that nothing leaves its range
---     asked e              what the last operation of e asks (`Need-add-..`, `Need-sub-..`, `Need-mul-..`, a signed `Need-cast-..`)
+--     asked e              what the last operation of e asks (a goal `overflow_add-..`, `overflow_sub-..`, `overflow_mul-..`, a signed `overflow_cast-..`)
 --     value e              the machine's reading of e is what it means
 -- Assumes nothing.
 use mathlib.Core.Path.{◌≡◌, refl, sym, ◌∙◌, ap, ap₂, subst}
@@ -151,7 +151,7 @@ made_val {w} (bin o a b) t =
 pub asked : {w : Width} (e : E w) → T (ok e) → SFits w (made e)
 asked {w} e t = subst (SFits w) (sym (made_val e t)) (fits e t)
 
--- a call's signed result (`c.CALL.ok`, `c.CALL.ensures`), passed on or returned: it is read back from its bits
+-- a call's signed result (`c.CALL.type_inv`, `c.CALL.ensures`), passed on or returned: it is read back from its bits
 pub read_result : (w : Width) (r : ℤ) {z : ℤ} → mag r < 2 ^ hbits w → r ≡ z → to_z w (of_z w r) ≡ z
 read_result w r h e = to_z-of_z w r (record { sfits = h }) ∙ e
 

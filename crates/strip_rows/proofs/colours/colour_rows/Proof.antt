@@ -175,6 +175,7 @@ add-colour-row-2 c = omega arith
 colour-row-requires-2 : tie.Need-colour_row-requires-in-loop-i invariant-loop decreases-loop
 colour-row-requires-2 c κs =
     let k = c.before.before.before.before.before.before.before.before.before.before.before.before.before.before.before.before.before.before in
+    let r = c.before.before.before.before.before.before.before.before.before.colour_row.auto in
     let l = k.before.loop-i in
     let s = start k in
     let a = s.args in
@@ -182,7 +183,7 @@ colour-row-requires-2 c κs =
     row-ready w a.b a.x.now a.g.now a.e.now l.i k.loop-i-test.true s.requires.0.3 _ _ _ _ _ s.requires.0.0 s.requires.1.0.0 s.requires.1.0.1 s.requires.1.0.2 s.requires.0.4 s.requires.0.5
     (part_length (l.i * w) w l.blue (omega (arith, inside k, l.invariant.2.1, s.requires.1.0.4)))
     (omega (arith, inside k)) (omega (arith, inside k)) (omega (arith, inside k))
-    (rw (c.before.before.before.before.before.before.before.before.before.colour_row.auto.p ∙ l.invariant.3) s.requires.1.1.0, rw (c.before.before.before.before.before.before.before.before.before.colour_row.auto.q ∙ l.invariant.4) s.requires.1.1.1)
+    (rw (r.p ∙ l.invariant.3) s.requires.1.1.0, rw (r.q ∙ l.invariant.4) s.requires.1.1.1)
 
 -- where the row of red is there, at the end of a turn
 abbrev red-made : tie.After-slice_known-in-loop-i-6-1 invariant-loop decreases-loop → tie.After-colour_row invariant-loop decreases-loop

@@ -65,12 +65,14 @@ green-beside-requires-2 : tie.Need-green_beside-requires-2
 green-beside-requires-2 c κs =
     let c₂ = above (to_below c) in
     let c₁ = own (to-above c₂.before) in
+    let k = c₁.green_rows.auto in
+    let l = c₂.green_beside.auto in
     let s = start c₁.before in (
       (λ v e h. beside s v h (omega (arith, e)) (omega (arith, e)), s.requires.0.range),
       (
-        room-kept s.requires.1.1 (c₂.green_beside.auto.x ∙ c₁.green_rows.auto.x) (c₂.green_beside.auto.d ∙ c₁.green_rows.auto.d) (c₂.green_beside.auto.g ∙ c₁.green_rows.auto.g) (c₂.green_beside.auto.tv ∙ c₁.green_rows.auto.tv) (c₂.green_beside.auto.t ∙ c₁.green_rows.auto.t)
-            (c₂.green_beside.auto.f ∙ c₁.green_rows.auto.f) (c₂.green_beside.auto.r ∙ c₁.green_rows.auto.r)
-            (c₂.green_beside.auto.p ∙ c₁.green_rows.auto.p) (c₂.green_beside.auto.q ∙ c₁.green_rows.auto.q),
+        room-kept s.requires.1.1 (l.x ∙ k.x) (l.d ∙ k.d) (l.g ∙ k.g) (l.tv ∙ k.tv) (l.t ∙ k.t)
+            (l.f ∙ k.f) (l.r ∙ k.r)
+            (l.p ∙ k.p) (l.q ∙ k.q),
         s.requires.1.0.2,
       ),
     )
