@@ -4,23 +4,25 @@ use mathlib.Core.Path.{◌≡◌, refl, sym, ap, ◌∙◌}
 use mathlib.Core.Bool.{Bool, true, false, cond, true≢false}
 use mathlib.Core.List.{List, [], ◌∷◌, ◌++◌}
 use native.Mathlib.Omega.{arith}
+use Rattle.std.specs.Prelude.{Result, Ok, Err, ⊤}
+use Rattle.std.specs.Result.{IsErr}
 use Rattle.lists.specs.Every.{Every}
-use Rattle.bayer.specs.Refusal.{size_out_of_range, unknown_layout, rows_outside_frame, wrong_piece_length, wrong_plane_length, reading_out_of_range, row_missing, malformed_file, not_camera_planes}
-use Rattle.bayer.specs.Refusal.{Refusal, unknown_smoothing, over_preview_size, number}
-use Rattle.bayer.specs.Refusal.{Case, first_of, held_after, Delivers}
+use Rattle.bayer.specs.declared.refusal.Refusal.{Refusal}
+use Rattle.bayer.specs.declared.refusal.Refusal.TheVariants.{SizeOutOfRange, UnknownLayout, RowsOutsideFrame, WrongPieceLength, WrongPlaneLength, ReadingOutOfRange, RowMissing, MalformedFile, NotCameraPlanes, UnknownSmoothing, OverPreviewSize}
+use Rattle.bayer.specs.Refusal.{number, answer_number, Case, first_of, held_after, Delivers}
 
-pub number-positive : (r : Refusal) → 0 < number r
-number-positive size_out_of_range = omega arith
-number-positive unknown_layout = omega arith
-number-positive rows_outside_frame = omega arith
-number-positive wrong_piece_length = omega arith
-number-positive wrong_plane_length = omega arith
-number-positive reading_out_of_range = omega arith
-number-positive row_missing = omega arith
-number-positive malformed_file = omega arith
-number-positive not_camera_planes = omega arith
-number-positive unknown_smoothing = omega arith
-number-positive over_preview_size = omega arith
+pub number_positive : (r : Refusal) → 0 < number r
+number_positive SizeOutOfRange = omega arith
+number_positive UnknownLayout = omega arith
+number_positive RowsOutsideFrame = omega arith
+number_positive WrongPieceLength = omega arith
+number_positive WrongPlaneLength = omega arith
+number_positive ReadingOutOfRange = omega arith
+number_positive RowMissing = omega arith
+number_positive MalformedFile = omega arith
+number_positive NotCameraPlanes = omega arith
+number_positive UnknownSmoothing = omega arith
+number_positive OverPreviewSize = omega arith
 
 -- ---- lists of conditions, one after the other
 
@@ -37,10 +39,6 @@ or-cond false k l m n h e = e
 or_right : {m : ℕ} (n : ℕ) → m ≡ 0 → or_else m n ≡ n
 or_right n e = rw e
 
-or_left : (m n : ℕ) → (m ≡ 0 → ⊥) → or_else m n ≡ m
-or_left zero n h = absurd (h refl)
-or_left (suc m) n h = refl
-
 or_same : (k m n : ℕ) → (k ≡ 0 → m ≡ n) → or_else k m ≡ or_else k n
 or_same zero m n h = h refl
 or_same (suc k) m n h = refl
@@ -53,15 +51,11 @@ or-none (suc m) n e = absurd (omega arith)
 pub first-append : (cs ds : List Case) → first_of (cs ++ ds) ≡ or_else (first_of cs) (first_of ds)
 unfolding first_of
 first-append [] ds = refl
-first-append (c ∷ cs) ds = or-cond c.holds (number c.refusal) (first_of (cs ++ ds)) (first_of cs) (first_of ds) (number-positive c.refusal) (first-append cs ds)
+first-append (c ∷ cs) ds = or-cond c.holds (number c.refusal) (first_of (cs ++ ds)) (first_of cs) (first_of ds) (number_positive c.refusal) (first-append cs ds)
 
 -- where none of the first list holds, the second decides
 pub later : (cs ds : List Case) → first_of cs ≡ 0 → first_of (cs ++ ds) ≡ first_of ds
 later cs ds e = first-append cs ds ∙ or_right (first_of ds) e
-
--- where one of the first holds, it decides
-pub sooner : (cs ds : List Case) → (first_of cs ≡ 0 → ⊥) → first_of (cs ++ ds) ≡ first_of cs
-sooner cs ds h = first-append cs ds ∙ or_left (first_of cs) (first_of ds) h
 
 -- conditions of which none holds where none of those before them does may be left out
 pub skip : (cs ds es : List Case) → (first_of cs ≡ 0 → first_of ds ≡ 0) → first_of (cs ++ (ds ++ es)) ≡ first_of (cs ++ es)
@@ -77,7 +71,7 @@ pub off : (cs : List Case) → first_of cs ≡ 0 → Off cs
 unfolding first_of
 off [] e = tt
 off (c ∷ cs) e =
-    let p : (c.holds ≡ false) × (first_of cs ≡ 0) = passed c.holds (number c.refusal) (first_of cs) (number-positive c.refusal) e in
+    let p : (c.holds ≡ false) × (first_of cs ≡ 0) = passed c.holds (number c.refusal) (first_of cs) (number_positive c.refusal) e in
     (p.0, off cs p.1)
   where
     passed : (b : Bool) (k n : ℕ) → 0 < k → cond b k n ≡ 0 → (b ≡ false) × (n ≡ 0)
@@ -124,3 +118,8 @@ refuses e h = record { answered = e; held = sym (refused-holds _ _ _ h) }
 pub accepts : {number : ℕ} {delivered lent after : List ℕ} → 0 ≡ number → after ≡ delivered → Delivers number delivered lent 0 after
 unfolding held_after
 accepts e d = record { answered = e; held = d }
+
+-- a call that hands on a refusal, by `?`
+pub refused : {number : ℕ} {delivered lent : List ℕ} (answer : Result ⊤ Refusal) → IsErr answer → answer_number answer ≡ number → Delivers number delivered lent (answer_number answer) lent
+refused (Ok done) h e = absurd (let z : ⊥ = cc in z)
+refused (Err refusal) h e = refuses e (λ z. omega (arith, number_positive refusal))

@@ -2,21 +2,22 @@
 use Rattle.std.specs.Prelude.{ℕ, ◌+◌, ◌*◌, ◌≤◌, Bool, not, ◌||◌, List, [], ◌∷◌, ◌++◌, ltb, eqb}
 use Rattle.lists.specs.Bound.{any_above}
 use Rattle.bayer.specs.declared.frame.Frame.{Frame}
-use Rattle.bayer.specs.Refusal.{Case, ◌when◌, size_out_of_range, unknown_layout, unknown_smoothing, rows_outside_frame, wrong_plane_length, reading_out_of_range}
+use Rattle.bayer.specs.declared.refusal.Refusal.TheVariants.{SizeOutOfRange, UnknownLayout, UnknownSmoothing, RowsOutsideFrame, WrongPlaneLength, ReadingOutOfRange}
+use Rattle.bayer.specs.Refusal.{Case, ◌when◌}
 
 -- 1, for a width or a height: outside 2 to 4096
 abbrev pub outside_sizes : ℕ → Bool
 outside_sizes n = ltb n 2 || ltb 4096 n
 
 abbrev pub size_cases : (width height : ℕ) → List Case
-size_cases width height = (size_out_of_range when (outside_sizes width || outside_sizes height)) ∷ []
+size_cases width height = (SizeOutOfRange when (outside_sizes width || outside_sizes height)) ∷ []
 
 -- 2: a layout above 3
 abbrev pub outside_layouts : (layout : ℕ) → Bool
 outside_layouts layout = ltb 3 layout
 
 abbrev pub layout_cases : (layout : ℕ) → List Case
-layout_cases layout = (unknown_layout when outside_layouts layout) ∷ []
+layout_cases layout = (UnknownLayout when outside_layouts layout) ∷ []
 
 -- 1 and 2, of a frame description
 abbrev pub frame_cases : Frame → List Case
@@ -32,14 +33,14 @@ pub record FrameFits (f : Frame) : Type 0 where
 
 -- 10, which strip calls test, and no other routine that takes a frame: a smoothing above 1
 abbrev pub smoothing_cases : (smoothing : ℕ) → List Case
-smoothing_cases smoothing = (unknown_smoothing when ltb 1 smoothing) ∷ []
+smoothing_cases smoothing = (UnknownSmoothing when ltb 1 smoothing) ∷ []
 
 -- 3, of n rows from row a on: there is none, or they run past the frame
 abbrev pub rows_outside : (H a n : ℕ) → Bool
 rows_outside H a n = eqb n 0 || ltb H (a + n)
 
 abbrev pub rows_cases : Frame → (a n : ℕ) → List Case
-rows_cases f a n = (rows_outside_frame when rows_outside f.height a n) ∷ []
+rows_cases f a n = (RowsOutsideFrame when rows_outside f.height a n) ∷ []
 
 -- 5, of three planes: one of them is not so long
 abbrev pub planes_misfit : (size red green blue : ℕ) → Bool
@@ -47,11 +48,11 @@ planes_misfit size red green blue = not (eqb red size) || (not (eqb green size) 
 
 -- 5, of one list that is lent
 abbrev pub misfit_cases : (size lent : ℕ) → List Case
-misfit_cases size lent = (wrong_plane_length when not (eqb lent size)) ∷ []
+misfit_cases size lent = (WrongPlaneLength when not (eqb lent size)) ∷ []
 
 -- 6: some reading is above 4095
 abbrev pub range_cases : (readings : List ℕ) → List Case
-range_cases readings = (reading_out_of_range when any_above 4095 readings) ∷ []
+range_cases readings = (ReadingOutOfRange when any_above 4095 readings) ∷ []
 
 -- 7: a plane of this length lacks row i
 abbrev pub lacks_row : (length w i : ℕ) → Bool

@@ -1,33 +1,37 @@
 -- The refusals, their numbers, and conditions tested in their order. Assumes nothing.
-use Rattle.std.specs.Prelude.{ℕ, zero, suc, ◌≡◌, Bool, cond, List, [], ◌∷◌}
-
-pub data Refusal : Type 0 where
-  size_out_of_range unknown_layout rows_outside_frame wrong_piece_length wrong_plane_length reading_out_of_range row_missing malformed_file not_camera_planes unknown_smoothing over_preview_size : Refusal
+use Rattle.std.specs.Prelude.{ℕ, zero, suc, ◌≡◌, Bool, cond, List, [], ◌∷◌, Result, Ok, Err, ⊤}
+use Rattle.bayer.specs.declared.refusal.Refusal.{Refusal}
+use Rattle.bayer.specs.declared.refusal.Refusal.TheVariants.{SizeOutOfRange, UnknownLayout, RowsOutsideFrame, WrongPieceLength, WrongPlaneLength, ReadingOutOfRange, RowMissing, MalformedFile, NotCameraPlanes, UnknownSmoothing, OverPreviewSize}
 
 -- the papers' number, and their word
 abbrev pub number : Refusal → ℕ
 -- "off size"
-number size_out_of_range = 1
+number SizeOutOfRange = 1
 -- "unknown layout"
-number unknown_layout = 2
+number UnknownLayout = 2
 -- "off the frame"
-number rows_outside_frame = 3
+number RowsOutsideFrame = 3
 -- "short halo"
-number wrong_piece_length = 4
+number WrongPieceLength = 4
 -- "plane misfit"
-number wrong_plane_length = 5
+number WrongPlaneLength = 5
 -- "over range"
-number reading_out_of_range = 6
+number ReadingOutOfRange = 6
 -- "no such row"
-number row_missing = 7
+number RowMissing = 7
 -- "torn file"
-number malformed_file = 8
+number MalformedFile = 8
 -- "not camera planes"
-number not_camera_planes = 9
+number NotCameraPlanes = 9
 -- "unknown smoothing"
-number unknown_smoothing = 10
+number UnknownSmoothing = 10
 -- "over preview size"
-number over_preview_size = 11
+number OverPreviewSize = 11
+
+-- what C and the programs are answered: 0 where nothing is refused, else the refusal's number
+abbrev pub answer_number : Result ⊤ Refusal → ℕ
+answer_number (Ok done) = 0
+answer_number (Err refusal) = number refusal
 
 -- a refusal, and whether its condition holds
 pub record Case : Type 0 where

@@ -1,22 +1,47 @@
-// The numbers of the refusals; 0 is none.
-pub const SIZE_OUT_OF_RANGE: u32 = 1;
+ghost use Rattle.std.specs.Prelude.{◌≡◌};
+ghost use Rattle.bayer.specs.Refusal.{number, answer_number};
 
-pub const UNKNOWN_LAYOUT: u32 = 2;
+// Why a call is refused: the papers' number, and their word.
+#[derive(Clone, Copy, PartialEq, Eq)]
+pub enum Refusal {
+    // "off size"
+    SizeOutOfRange = 1,
+    // "unknown layout"
+    UnknownLayout = 2,
+    // "off the frame"
+    RowsOutsideFrame = 3,
+    // "short halo"
+    WrongPieceLength = 4,
+    // "plane misfit"
+    WrongPlaneLength = 5,
+    // "over range"
+    ReadingOutOfRange = 6,
+    // "no such row"
+    RowMissing = 7,
+    // "torn file"
+    MalformedFile = 8,
+    // "not camera planes"
+    NotCameraPlanes = 9,
+    // "unknown smoothing"
+    UnknownSmoothing = 10,
+    // "over preview size"
+    OverPreviewSize = 11,
+}
 
-pub const ROWS_OUTSIDE_FRAME: u32 = 3;
+impl Refusal {
+    pub fn number(self) -> u32
+        ensures { result ≡ number self }
+    {
+        self as u32
+    }
+}
 
-pub const WRONG_PIECE_LENGTH: u32 = 4;
-
-pub const WRONG_PLANE_LENGTH: u32 = 5;
-
-pub const READING_OUT_OF_RANGE: u32 = 6;
-
-pub const ROW_MISSING: u32 = 7;
-
-pub const MALFORMED_FILE: u32 = 8;
-
-pub const NOT_CAMERA_PLANES: u32 = 9;
-
-pub const UNKNOWN_SMOOTHING: u32 = 10;
-
-pub const OVER_PREVIEW_SIZE: u32 = 11;
+// What C and the programs are answered: 0, or the number of the refusal.
+pub fn answer_number(answer: Result<(), Refusal>) -> u32
+    ensures { result ≡ answer_number answer }
+{
+    match answer {
+        Ok(()) => 0,
+        Err(refusal) => refusal.number(),
+    }
+}

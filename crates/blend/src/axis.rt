@@ -9,10 +9,11 @@ pub struct Axis {
     pub estimate: i16,
 }
 
+// `abs_diff` by the name that docs/a8.patch lists for callers of this crate: it stays for them.
 pub fn distance(a: u16, b: u16) -> u16
     ensures { result ≡ nat_abs (pos a -ℤ pos b) }
 {
-    if a < b { b - a } else { a - b }
+    a.abs_diff(b)
 }
 
 // Centre c, neighbours l and r, second neighbours p and q.

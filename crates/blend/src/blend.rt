@@ -22,7 +22,7 @@ fn below_half(weight: u16) -> i16
     requires { weight ≤ 32768 }
     ensures { result ≡ neg_ℤ (pos (32768 - weight)) }
 {
-    (weight as i32 - 32768) as i16
+    (i32::from(weight) - 32768) as i16
 }
 
 // Green in units at a red or blue pixel, from its row and its column, and the weight of the one that varies more.
@@ -31,6 +31,7 @@ pub fn blend(weight: u16, row: Axis, column: Axis) -> u16
     requires { (weight ≡ weight_at (place_of row.variation column.variation)) × (Fitting row column) }
     ensures { result ≡ blend row column }
 {
-    let product = below_half(weight) as i32 * gap(row, column) as i32;
-    whole::clamp(2 * (row.estimate as i32 + column.estimate as i32) + ((product + 8192) >> 14))
+    let product = i32::from(below_half(weight)) * i32::from(gap(row, column));
+    let sum = i32::from(row.estimate) + i32::from(column.estimate);
+    whole::clamp(2 * sum + ((product + 8192) >> 14))
 }

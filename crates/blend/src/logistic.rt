@@ -1,11 +1,11 @@
 ghost use Rattle.std.specs.Prelude.{◌≡◌, ◌<◌};
-ghost use Rattle.blend.specs.Logistic.{logistic, weight_at};
+ghost use Rattle.blend.specs.Logistic.{weight_at};
 ghost use Rattle.blend.specs.Machine.{place_of};
 
 use crate::axis::distance;
 
 // The whole numbers nearest to 65536 / (1 + e^(k/20)), for k below 256.
-const LOGISTIC: [u16; 256] = [
+static LOGISTIC: [u16; 256] = [
     32768, 31949, 31131, 30315, 29502, 28693, 27889, 27091, 26300, 25517, 24743, 23977, 23222,
     22478, 21746, 21025, 20318, 19624, 18943, 18277, 17625, 16989, 16367, 15761, 15170, 14595,
     14036, 13492, 12964, 12452, 11955, 11474, 11009, 10558, 10123, 9702, 9296, 8905, 8527, 8163,
@@ -21,24 +21,16 @@ const LOGISTIC: [u16; 256] = [
     1, 0, 0, 0, 0, 0, 0, 0, 0, 0, 0, 0, 0, 0, 0, 0, 0, 0, 0, 0, 0,
 ];
 
-// The table. A constant is written out anew wherever it is read, so a block takes it once and lends it on.
-pub fn logistic() -> [u16; 256]
-    ensures { result ≡ logistic }
-{
-    LOGISTIC
-}
-
 // k, stopped at the last place, from the variations of the row and the column.
 pub fn place(row: u16, column: u16) -> u16
     ensures { result ≡ place_of row column }
 {
-    let k = distance(row, column) / 16;
-    if k < 255 { k } else { 255 }
+    (distance(row, column) / 16).min(255)
 }
 
-pub fn weight(table: &[u16; 256], place: u16) -> u16
-    requires { (table.now ≡ logistic) × (place < 256) }
+pub fn weight(place: u16) -> u16
+    requires { place < 256 }
     ensures { result ≡ weight_at place }
 {
-    table[place as usize]
+    LOGISTIC[usize::from(place)]
 }

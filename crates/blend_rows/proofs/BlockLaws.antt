@@ -4,14 +4,16 @@ use mathlib.Core.Bool.{cond}
 use mathlib.Core.List.{List}
 use mathlib.Core.Path.{◌≡◌, refl, sym, ap, ap₂, ◌∙◌}
 use native.Mathlib.Omega.{arith}
-use lib.Dec.{lit≤}
+use native.Mathlib.Nat.{add-sub_cancel_left}
+use lib.Dec.{eqb, lit≤}
 use lib.IntN.{ℤ, pos, sub_ℕ, ◌+ℤ◌, ◌-ℤ◌}
-use lib.ListN.{length, get_or}
+use lib.ListN.{length, get_or, take, drop}
 use Rattle.whole.proofs.Pairs.{natₚ, subₚ, ◌+ₚ◌, ◌-ₚ◌, eq-by}
 use Rattle.lists.specs.Part.{part}
 use Rattle.lists.specs.Table.{table, joined}
 use Rattle.lists.specs.Bound.{AllAtMost}
-use Rattle.lists.proofs.TableLaws.{table_same}
+use Rattle.whole.proofs.Tests.{cond_both}
+use Rattle.lists.proofs.TableLaws.{length-table, table_same}
 use Rattle.lists.proofs.JoinedLaws.{joined_same, get_or-parts, part-within}
 use Rattle.lists.proofs.PartLaws.{get_or_part}
 use Rattle.lists.proofs.BoundLaws.{all-parts, row-at-most}
@@ -147,3 +149,15 @@ module _ (f : Frame) (first : ℕ) (rows : List ℕ) (v b : ℕ) where
 
     pub block-blended : {odd : ℕ} → odd ≡ starts_green f.layout v → joined (block_row f.width odd e o) b ≡ joined (λ i. table (λ j. blend_at m (pos (v + i)) (pos j)) f.width) b
     block-blended s = rw s (joined_same _ _ b (λ i hi. row_is i hi ((starts_green f.layout v + i) % 2) (omega arith) (green-at i hi)))
+
+-- ---- the rows of a block, each from the parts that it is handed
+
+pub row-length : (w odd : ℕ) (e o : List ℕ) (i : ℕ) → length (block_row w odd e o i) ≡ w
+row-length w odd e o i = let h = places w in from w h ((odd + i) % 2) (part (i * h) (5 * h) e) (part (i * h) (5 * h) o)
+  where
+    from : (w h side : ℕ) (e o : List ℕ) → length (row_from w h side e o) ≡ w
+    from w h side e o = cond_both (λ l. length l ≡ w) (eqb side 0) (blend_row_in w h side e (part (2 * h) h o)) (blend_row_in w h side o (part (2 * h) h e)) (length-table _ w) (length-table _ w)
+
+pub row_same : (w odd : ℕ) (e o : List ℕ) (i : ℕ) {n : ℕ} → n ≡ w → let h = places w in
+    row_from n h ((odd + i) % 2) (take (i * h + 5 * h - i * h) (drop (i * h) e)) (take (i * h + 5 * h - i * h) (drop (i * h) o)) ≡ block_row w odd e o i
+row_same w odd e o i k = let h = places w in rw (k, add-sub_cancel_left (i * h) (5 * h))

@@ -1,3 +1,4 @@
 pub mod RoomLaws
 pub mod AxisLaws
 pub mod BlockLaws
+pub mod FetchLaws

@@ -30,9 +30,6 @@ module _ {A : Type 0} (n : ℕ) (l : List A) where
       → placed n (length (lent a)) (lent a) e ≡ table f n ++ table g n
   two-halves size f g {a} a-is e-is = two-tables n n (drop (n - 0) l) refl refl (front (omega arith)) (back size a (ap length a-is ∙ length-table _ _)) a-is e-is
 
-  pub halves-length : length l ≡ 2 * n → (f g : ℕ → A) {m : List A} → m ≡ table f n ++ table g n → length m ≡ length l
-  halves-length size f g e = ap length e ∙ length-append (table f n) (table g n) ∙ omega (arith, length-table f n, length-table g n)
-
 -- they hold what was put there, and what another rule gives, which agrees
 pub front-again : {A : Type 0} (n : ℕ) (l : List A) {a : List A} → n ≤ length l → length a ≡ length (take (n - 0) l) → take (n - 0) (a ++ drop (n - 0) l) ≡ a
 front-again n l {a} h e = first_part n (n - 0) a (drop (n - 0) l) refl (e ∙ front n l h) (omega arith)

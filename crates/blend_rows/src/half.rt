@@ -2,35 +2,33 @@
 ghost use Rattle.std.specs.Prelude.{◌≡◌, ◌+◌, ◌*◌, ◌≤◌, ◌<◌, length, get_or};
 ghost use Rattle.lists.specs.Table.{table};
 ghost use Rattle.lists.specs.Bound.{AllAtMost};
-ghost use Rattle.blend.specs.Logistic.{logistic, weight_at};
+ghost use Rattle.blend.specs.Logistic.{weight_at};
 ghost use Rattle.blend.specs.Blend.{blend};
 ghost use Rattle.blend.specs.Machine.{place_of};
-ghost use Rattle.blend_rows.specs.BlendIn.{Lines, axis_from, axis_of, Axes, Weighted, HalfRows, row_axis_in, column_axis_in, blend_in};
+ghost use Rattle.blend_rows.specs.BlendIn.{axis_of, Axes, Weighted, row_axis_in, column_axis_in, blend_in};
 
-use blend::axis::{Axis, estimate, variation};
+use crate::around::Around;
+use crate::stencil::Stencil;
+use blend::axis::Axis;
 use blend::blend::blend;
 use blend::logistic::{place, weight};
 
-// From centres c, neighbours l and r, second neighbours p and q.
-fn variations(c: &[u16], l: &[u16], r: &[u16], p: &[u16], q: &[u16], out: &mut [u16])
-    requires { Lines (length out.old) c.now l.now r.now p.now q.now }
-    ensures { out.new ≡ table (λ k. (axis_from c.now l.now r.now p.now q.now k).variation) (length out.old) }
-{
-    let mut k = 0;
-    while k < out.len() {
-        out[k] = variation(c[k], l[k], r[k], p[k], q[k]);
-        k += 1;
-    }
+// The pixels' variations and estimates along the row or along the column.
+#[derive(Clone, Copy)]
+struct AxisSlices<'a> {
+    variations: &'a [u16],
+    estimates: &'a [i16],
 }
 
-fn estimates(c: &[u16], l: &[u16], r: &[u16], p: &[u16], q: &[u16], out: &mut [i16])
-    requires { Lines (length out.old) c.now l.now r.now p.now q.now }
-    ensures { out.new ≡ table (λ k. (axis_from c.now l.now r.now p.now q.now k).estimate) (length out.old) }
-{
-    let mut k = 0;
-    while k < out.len() {
-        out[k] = estimate(c[k], l[k], r[k], p[k], q[k]);
-        k += 1;
+impl AxisSlices<'_> {
+    fn axis(self, k: usize) -> Axis
+        requires { (k < length self.variations.now) × (k < length self.estimates.now) }
+        ensures { result ≡ axis_of self.entry.variations.now self.entry.estimates.now k }
+    {
+        Axis {
+            variation: self.variations[k],
+            estimate: self.estimates[k],
+        }
     }
 }
 
@@ -38,138 +36,99 @@ fn row_places(row: &[u16], column: &[u16], out: &mut [u16])
     requires { (length out.old ≤ length row.now) × (length out.old ≤ length column.now) }
     ensures { out.new ≡ table (λ k. place_of (get_or row.now k 0) (get_or column.now k 0)) (length out.old) }
 {
-    let mut k = 0;
-    while k < out.len() {
-        out[k] = place(row[k], column[k]);
-        k += 1;
+    for (k, sample) in out.iter_mut().enumerate() {
+        *sample = place(row[k], column[k]);
     }
 }
 
-fn row_weights(entries: &[u16; 256], places: &[u16], out: &mut [u16])
-    requires { (entries.now ≡ logistic) × (length out.old ≤ length places.now) × (AllAtMost 255 places.now) }
+fn row_weights(places: &[u16], out: &mut [u16])
+    requires { (length out.old ≤ length places.now) × (AllAtMost 255 places.now) }
     ensures { out.new ≡ table (λ k. weight_at (get_or places.now k 0)) (length out.old) }
 {
-    let mut k = 0;
-    while k < out.len() {
-        out[k] = weight(entries, places[k]);
-        k += 1;
+    for (k, sample) in out.iter_mut().enumerate() {
+        *sample = weight(places[k]);
     }
 }
 
-fn axis_at(v: &[u16], x: &[i16], k: usize) -> Axis
-    requires { (k < length v.now) × (k < length x.now) }
-    ensures { result ≡ axis_of v.now x.now k }
+// From the weights, and the axes along the row and along the column.
+fn row_blend(weights: &[u16], row: AxisSlices, column: AxisSlices, out: &mut [u16])
+    requires axes { Axes (length out.old) row.variations.now column.variations.now row.estimates.now column.estimates.now }
+    requires weighted { Weighted (length out.old) weights.now row.variations.now column.variations.now }
+    ensures { out.new ≡ table (λ k. blend (axis_of row.entry.variations.now row.entry.estimates.now k) (axis_of column.entry.variations.now column.entry.estimates.now k)) (length out.old) }
 {
-    Axis {
-        variation: v[k],
-        estimate: x[k],
-    }
-}
-
-// From the weights, and the variations and estimates along the row and along the column.
-fn row_blend(weights: &[u16], vr: &[u16], vc: &[u16], xr: &[i16], xc: &[i16], out: &mut [u16])
-    requires { (Axes (length out.old) vr.now vc.now xr.now xc.now) × (Weighted (length out.old) weights.now vr.now vc.now) }
-    ensures { out.new ≡ table (λ k. blend (axis_of vr.now xr.now k) (axis_of vc.now xc.now k)) (length out.old) }
-{
-    let mut k = 0;
-    while k < out.len() {
-        out[k] = blend(weights[k], axis_at(vr, xr, k), axis_at(vc, xc, k));
-        k += 1;
+    for (k, sample) in out.iter_mut().enumerate() {
+        *sample = blend(weights[k], row.axis(k), column.axis(k));
     }
 }
 
 // Green of the pixels, in p, which first holds the places of the table; q is room for the weights.
-fn half_blend(
-    entries: &[u16; 256],
-    vr: &[u16],
-    vc: &[u16],
-    xr: &[i16],
-    xc: &[i16],
-    p: &mut [u16],
-    q: &mut [u16],
-)
-    requires { (entries.now ≡ logistic) × (Axes (length p.old) vr.now vc.now xr.now xc.now) × (length q.old ≡ length p.old) }
-    ensures { p.new ≡ table (λ k. blend (axis_of vr.now xr.now k) (axis_of vc.now xc.now k)) (length p.old) }
+fn half_blend(row: AxisSlices, column: AxisSlices, p: &mut [u16], q: &mut [u16])
+    requires axes { Axes (length p.old) row.variations.now column.variations.now row.estimates.now column.estimates.now }
+    requires same_length { length q.old ≡ length p.old }
+    ensures { p.new ≡ table (λ k. blend (axis_of row.entry.variations.now row.entry.estimates.now k) (axis_of column.entry.variations.now column.entry.estimates.now k)) (length p.old) }
 {
-    row_places(vr, vc, p);
-    row_weights(entries, p, q);
-    row_blend(q, vr, vc, xr, xc, p);
+    row_places(row.variations, column.variations, p);
+    row_weights(p, q);
+    row_blend(q, row, column, p);
 }
 
-// Along the row. own and beside are as in specs/BlendIn.
-fn along_row(own: &[u16], beside: &[u16], h: usize, side: usize, v: &mut [u16], x: &mut [i16])
-    requires { (side < 2) × (h ≤ 2050) × (HalfRows h own.now beside.now) × (length v.old + 2 ≤ h) × (length x.old ≡ length v.old) }
-    ensures { (v.new ≡ table (λ k. (row_axis_in h side own.now beside.now k).variation) (length v.old))
-        × (x.new ≡ table (λ k. (row_axis_in h side own.now beside.now k).estimate) (length x.old)) }
+fn along_row(around: Around, variations: &mut [u16], estimates: &mut [i16])
+    requires room { length variations.old + 2 ≤ around.places }
+    requires same_length { length estimates.old ≡ length variations.old }
+    ensures variations { variations.new ≡ table (λ k. (row_axis_in around.entry.places around.entry.side around.entry.own.now around.entry.beside.now k).variation) (length variations.old) }
+    ensures estimates { estimates.new ≡ table (λ k. (row_axis_in around.entry.places around.entry.side around.entry.own.now around.entry.beside.now k).estimate) (length estimates.old) }
 {
-    let first = 2 * h;
+    let first = 2 * around.places;
     let centre = first + 1;
     let last = first + 2;
-    let next = side + 1;
-    variations(
-        &own[centre..],
-        &beside[side..],
-        &beside[next..],
-        &own[first..],
-        &own[last..],
-        v,
-    );
-    estimates(
-        &own[centre..],
-        &beside[side..],
-        &beside[next..],
-        &own[first..],
-        &own[last..],
-        x,
-    );
+    let next = around.side + 1;
+    let stencil = Stencil {
+        centre: &around.own[centre..],
+        before: &around.beside[around.side..],
+        after: &around.beside[next..],
+        second_before: &around.own[first..],
+        second_after: &around.own[last..],
+    };
+    stencil.measure(variations, estimates);
 }
 
-// Along the column.
-fn along_column(own: &[u16], h: usize, v: &mut [u16], x: &mut [i16])
-    requires { (h ≤ 2050) × (length own.now ≡ 5 * h) × (AllAtMost 4095 own.now) × (length v.old + 2 ≤ h) × (length x.old ≡ length v.old) }
-    ensures { (v.new ≡ table (λ k. (column_axis_in h own.now k).variation) (length v.old))
-        × (x.new ≡ table (λ k. (column_axis_in h own.now k).estimate) (length x.old)) }
+fn along_column(around: Around, variations: &mut [u16], estimates: &mut [i16])
+    requires room { length variations.old + 2 ≤ around.places }
+    requires same_length { length estimates.old ≡ length variations.old }
+    ensures variations { variations.new ≡ table (λ k. (column_axis_in around.entry.places around.entry.own.now k).variation) (length variations.old) }
+    ensures estimates { estimates.new ≡ table (λ k. (column_axis_in around.entry.places around.entry.own.now k).estimate) (length estimates.old) }
 {
+    let h = around.places;
     let above = h + 1;
     let centre = 2 * h + 1;
     let below = 3 * h + 1;
     let last = 4 * h + 1;
-    variations(
-        &own[centre..],
-        &own[above..],
-        &own[below..],
-        &own[1..],
-        &own[last..],
-        v,
-    );
-    estimates(
-        &own[centre..],
-        &own[above..],
-        &own[below..],
-        &own[1..],
-        &own[last..],
-        x,
-    );
+    let stencil = Stencil {
+        centre: &around.own[centre..],
+        before: &around.own[above..],
+        after: &around.own[below..],
+        second_before: &around.own[1..],
+        second_after: &around.own[last..],
+    };
+    stencil.measure(variations, estimates);
 }
 
-// Green of the pixels, in p. y and d are room for variations and estimates, along the row and then along the column.
-pub fn half_greens(
-    entries: &[u16; 256],
-    own: &[u16],
-    beside: &[u16],
-    h: usize,
-    side: usize,
-    y: &mut [u16],
-    d: &mut [i16],
-    p: &mut [u16],
-    q: &mut [u16],
-)
-    requires entries_value { (entries.now ≡ logistic) × (side < 2) × (h ≤ 2050) × (HalfRows h own.now beside.now) }
-    requires p_len_bound { (length p.old + 2 ≤ h) × (length q.old ≡ length p.old) × (length y.old ≡ 2 * length p.old) × (length d.old ≡ 2 * length p.old) }
-    ensures { p.new ≡ table (blend_in h side own.now beside.now) (length p.old) }
+// Green of the pixels, in p. y and d are room for variations and estimates, along the row and then along the column, q for the weights.
+pub fn half_greens(around: Around, y: &mut [u16], d: &mut [i16], p: &mut [u16], q: &mut [u16])
+    requires room { length p.old + 2 ≤ around.places }
+    requires lengths { (length q.old ≡ length p.old) × (length y.old ≡ 2 * length p.old) × (length d.old ≡ 2 * length p.old) }
+    ensures { p.new ≡ table (blend_in around.entry.places around.entry.side around.entry.own.now around.entry.beside.now) (length p.old) }
 {
     let n = p.len();
-    along_row(own, beside, h, side, &mut y[0..n], &mut d[0..n]);
-    along_column(own, h, &mut y[n..], &mut d[n..]);
-    half_blend(entries, &y[0..n], &y[n..], &d[0..n], &d[n..], p, q);
+    along_row(around, &mut y[0..n], &mut d[0..n]);
+    along_column(around, &mut y[n..], &mut d[n..]);
+    let row = AxisSlices {
+        variations: &y[0..n],
+        estimates: &d[0..n],
+    };
+    let column = AxisSlices {
+        variations: &y[n..],
+        estimates: &d[n..],
+    };
+    half_blend(row, column, p, q);
 }

@@ -4,6 +4,7 @@ ghost use Rattle.bayer.specs.Planes.{three_planes};
 ghost use Rattle.remosaic.specs.MosaicBack.{mosaic_number, MosaicPromise};
 
 use bayer::frame::Frame;
+use bayer::refusal::answer_number;
 use remosaic::back::mosaic_back;
 use remosaic::check::mosaic_back_check;
 
@@ -22,7 +23,7 @@ pub fn rokzimp_mosaic_back_check<'a>(
     ensures { result ≡ mosaic_number (frame width height layout) a n (three_planes red.now green.now blue.now) mosaic }
 {
     let frame = Frame::new(width, height, layout);
-    mosaic_back_check(frame, a, n, red, green, blue, mosaic)
+    answer_number(mosaic_back_check(frame, a, n, red, green, blue, mosaic))
 }
 
 // The readings of rows a to a + n - 1, from the three planes of these rows.
@@ -40,5 +41,5 @@ pub fn rokzimp_mosaic_back<'a>(
     ensures { MosaicPromise (frame width height layout) a n (three_planes red.now green.now blue.now) mosaic.old result mosaic.new }
 {
     let frame = Frame::new(width, height, layout);
-    mosaic_back(frame, a, n, red, green, blue, mosaic)
+    answer_number(mosaic_back(frame, a, n, red, green, blue, mosaic))
 }

@@ -5,6 +5,7 @@ ghost use Rattle.strip.specs.Strip.{asked, strip_number, Promise};
 ghost use Rattle.strip.specs.declared.entry.Entry.TheVariants.{Preview};
 
 use bayer::frame::Frame;
+use bayer::refusal::answer_number;
 use strip::check::strip_check;
 use strip::entry::Entry;
 use strip::preview::preview;
@@ -24,7 +25,7 @@ pub fn rokzimp_preview_check(
     ensures { result ≡ strip_number (asked Preview (frame width height layout) a n piece.now) red green blue }
 {
     let frame = Frame::new(width, height, layout);
-    strip_check(Entry::Preview, frame, a, n, piece, red, green, blue)
+    answer_number(strip_check(Entry::Preview, frame, a, n, piece, red, green, blue))
 }
 
 // Rows a to a + n - 1 of the three planes, at most 64 of at most 1024 columns, with no smoothing named.
@@ -44,7 +45,7 @@ pub fn rokzimp_preview(
         (three_planes red.new green.new blue.new) }
 {
     let frame = Frame::new(width, height, layout);
-    preview(frame, a, n, piece, red, green, blue)
+    answer_number(preview(frame, a, n, piece, red, green, blue))
 }
 
 // The same, with a smoothing that is named.
@@ -63,7 +64,7 @@ pub fn rokzimp_preview_smoothed_check(
     ensures { result ≡ strip_number (asked Preview (smoothed width height layout smoothing) a n piece.now) red green blue }
 {
     let named = Frame::smoothed(width, height, layout, smoothing);
-    strip_check(Entry::Preview, named, a, n, piece, red, green, blue)
+    answer_number(strip_check(Entry::Preview, named, a, n, piece, red, green, blue))
 }
 
 pub fn rokzimp_preview_smoothed(
@@ -83,5 +84,5 @@ pub fn rokzimp_preview_smoothed(
         (three_planes red.new green.new blue.new) }
 {
     let named = Frame::smoothed(width, height, layout, smoothing);
-    preview(named, a, n, piece, red, green, blue)
+    answer_number(preview(named, a, n, piece, red, green, blue))
 }

@@ -5,6 +5,7 @@ ghost use Rattle.strip.specs.Strip.{asked, strip_number, Promise};
 ghost use Rattle.strip.specs.declared.entry.Entry.TheVariants.{FullSize};
 
 use bayer::frame::Frame;
+use bayer::refusal::answer_number;
 use strip::check::strip_check;
 use strip::entry::Entry;
 use strip::strip::strip;
@@ -24,7 +25,7 @@ pub fn rokzimp_strip_check(
     ensures { result ≡ strip_number (asked FullSize (frame width height layout) a n piece.now) red green blue }
 {
     let frame = Frame::new(width, height, layout);
-    strip_check(Entry::FullSize, frame, a, n, piece, red, green, blue)
+    answer_number(strip_check(Entry::FullSize, frame, a, n, piece, red, green, blue))
 }
 
 // Rows a to a + n - 1 of the three planes, with no smoothing named.
@@ -44,7 +45,7 @@ pub fn rokzimp_strip(
         (three_planes red.new green.new blue.new) }
 {
     let frame = Frame::new(width, height, layout);
-    strip(frame, a, n, piece, red, green, blue)
+    answer_number(strip(frame, a, n, piece, red, green, blue))
 }
 
 // The same, with a smoothing that is named.
@@ -63,7 +64,7 @@ pub fn rokzimp_strip_smoothed_check(
     ensures { result ≡ strip_number (asked FullSize (smoothed width height layout smoothing) a n piece.now) red green blue }
 {
     let frame = Frame::smoothed(width, height, layout, smoothing);
-    strip_check(Entry::FullSize, frame, a, n, piece, red, green, blue)
+    answer_number(strip_check(Entry::FullSize, frame, a, n, piece, red, green, blue))
 }
 
 pub fn rokzimp_strip_smoothed(
@@ -83,5 +84,5 @@ pub fn rokzimp_strip_smoothed(
         (three_planes red.new green.new blue.new) }
 {
     let named = Frame::smoothed(width, height, layout, smoothing);
-    strip(named, a, n, piece, red, green, blue)
+    answer_number(strip(named, a, n, piece, red, green, blue))
 }

@@ -5,6 +5,7 @@ ghost use Rattle.test_frames.specs.Generator.{state_after};
 ghost use Rattle.test_frames.specs.Jump.{jumped};
 ghost use Rattle.test_frames.specs.TestFrame.{test_frame, walk_number, row_number};
 
+use bayer::refusal::answer_number;
 use test_frames::frame::{test_frame, test_row};
 use test_frames::jump::jump;
 
@@ -12,14 +13,14 @@ use test_frames::jump::jump;
 pub fn rokzimp_test_frame(seed: u32, width: usize, height: usize, frame: &mut [u16]) -> u32
     ensures { Delivers (walk_number width height (length frame.old)) (test_frame seed width height) frame.old result frame.new }
 {
-    test_frame(seed, width, height, frame)
+    answer_number(test_frame(seed, width, height, frame))
 }
 
 // One row of it.
 pub fn rokzimp_test_row(seed: u32, width: usize, height: usize, row: usize, out: &mut [u16]) -> u32
     ensures { Delivers (row_number width height row (length out.old)) (row_of width row (test_frame seed width height)) out.old result out.new }
 {
-    test_row(seed, width, height, row, out)
+    answer_number(test_row(seed, width, height, row, out))
 }
 
 // The state after so many steps.

@@ -19,7 +19,7 @@ use crate::views::{
 fn checksum(plane: &[u16]) -> u32 {
     let mut sum: u32 = 0;
     for sample in plane {
-        sum = sum.wrapping_mul(31).wrapping_add(*sample as u32);
+        sum = sum.wrapping_mul(31).wrapping_add(u32::from(*sample));
     }
     sum
 }
@@ -29,8 +29,8 @@ fn piece() -> [u16; 84] {
     let mut frame = [0u16; 120];
     rokzimp_test_frame(3, 6, 20, &mut frame);
     let mut piece = [0u16; 84];
-    for i in 0..84 {
-        piece[i] = frame[i];
+    for (reading, framed) in piece.iter_mut().zip(frame) {
+        *reading = framed;
     }
     piece
 }

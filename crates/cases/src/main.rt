@@ -2,85 +2,66 @@
 // writes them with the answers of the other implementation, to which this program's answers are held.
 #![tactic(auto)]
 
-ghost use Rattle.std.specs.Prelude.{◌<◌, length};
-
-use crate::fields::Fields;
+use crate::fusion_case::FusionCase;
+use crate::kind::Kind;
+use crate::mosaic_case::{MosaicCase, there_and_back};
+use crate::numbers::{Numbers, numbers_of};
+use crate::piece_case::PieceCase;
+use crate::strip_case::StripCase;
+use crate::test_case::{JumpCase, TestFrameCase, TestRowCase};
+use crate::view_case::{PartnerViewCase, RowViewCase};
 use input::read_full;
 use std::io;
 
-mod fields;
+mod frame;
 mod fusion_case;
+mod kind;
 mod mosaic_case;
+mod numbers;
 mod piece_case;
-mod preview_case;
-mod print;
+mod planes;
 mod recipe;
 mod small_case;
 mod strip_case;
+mod summary;
 mod test_case;
 mod view_case;
 
-// One line: a case, by its letter, or a comment.
-fn answer(rt: &impl Print, letter: u8, f: &Fields) -> io::Result<()> {
-    if letter == b'S' {
-        strip_case::run(rt, f)?;
+// A case of this kind.
+fn answer(rt: &impl Print, kind: Kind, numbers: &mut Numbers) -> io::Result<()> {
+    match kind {
+        Kind::Strip => StripCase::read(numbers).run(rt),
+        Kind::SmallFrame => small_case::run(rt, &StripCase::read(numbers)),
+        Kind::Mosaic => MosaicCase::read(numbers).run(rt),
+        Kind::ThereAndBack => there_and_back(rt, &StripCase::read(numbers)),
+        Kind::Jump => JumpCase::read(numbers).run(rt),
+        Kind::TestFrame => TestFrameCase::read(numbers).run(rt),
+        Kind::TestRow => TestRowCase::read(numbers).run(rt),
+        Kind::RowView => RowViewCase::read(numbers).run(rt),
+        Kind::PartnerView => PartnerViewCase::read(numbers).run(rt),
+        Kind::Piece => PieceCase::read(numbers).run(rt),
+        Kind::Fusion => FusionCase::read(numbers).run(rt),
     }
-    if letter == b'C' {
-        small_case::run(rt, f)?;
-    }
-    if letter == b'M' {
-        mosaic_case::run(rt, f)?;
-    }
-    if letter == b'B' {
-        mosaic_case::run_strip(rt, f)?;
-    }
-    if letter == b'J' {
-        test_case::run_jump(rt, f)?;
-    }
-    if letter == b'W' {
-        test_case::run_frame(rt, f)?;
-    }
-    if letter == b'L' {
-        test_case::run_row(rt, f)?;
-    }
-    if letter == b'V' {
-        view_case::run_row(rt, f)?;
-    }
-    if letter == b'Q' {
-        view_case::run_partner(rt, f)?;
-    }
-    if letter == b'R' {
-        piece_case::run(rt, f)?;
-    }
-    if letter == b'F' {
-        fusion_case::run(rt, f)?;
-    }
-    Ok(())
 }
 
-// The numbers of the line at `at`, which lies inside. The answer is where the next line starts.
-fn line(bytes: &[u8], at: usize, f: &mut Fields) -> usize
-    requires { at < length bytes.now }
-    ensures { at < result }
-{
-    let end = fields::line_end(bytes, at);
-    fields::read(&bytes[at..end], f);
-    end + 1
+// One line: a case, or a comment, which has no answer.
+fn line(rt: &impl Print, line: &[u8]) -> io::Result<()> {
+    let Some(letter) = line.first() else {
+        return Ok(());
+    };
+    let Ok(kind) = Kind::try_from(*letter) else {
+        return Ok(());
+    };
+    let read = numbers_of(line);
+    answer(rt, kind, &mut Numbers(read.iter()))
 }
 
-fn lines(rt: &impl Print, bytes: &[u8]) -> io::Result<()> {
-    let mut at = 0;
-    while at < bytes.len() {
-        let mut f = [0; 64];
-        let next = line(bytes, at, &mut f);
-        answer(rt, bytes[at], &f)?;
-        at = next;
-    }
-    Ok(())
-}
-
+// Fixed memory, as in the library: nothing here is on the heap.
 fn main(rt: HostRuntime) -> io::Result<()> {
     let mut bytes = [0u8; 400000];
     let n = read_full(&mut rt.reader(), &mut bytes)?;
-    lines(&rt, &bytes[..n])
+    for text in bytes[..n].split(|byte| *byte == b'\n') {
+        line(&rt, text)?;
+    }
+    Ok(())
 }

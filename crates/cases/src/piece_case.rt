@@ -1,12 +1,26 @@
-use crate::fields::Fields;
-use crate::print;
+// The rows of the mosaic that a strip is lent: the first, and how many.
+use crate::frame::Rows;
+use crate::numbers::Numbers;
 use capi::pieces::{rokzimp_piece_rows, rokzimp_piece_start};
 use std::io;
 
-// The rows of the mosaic that a strip is lent: the first, and how many.
-pub fn run(rt: &impl Print, f: &Fields) -> io::Result<()> {
-    let start = print::size(rokzimp_piece_start(f[2]));
-    print!(rt; "{start}")?;
-    print::number(rt, print::size(rokzimp_piece_rows(f[1], f[2], f[3])))?;
-    println!(rt; "")
+#[derive(Drop)]
+pub struct PieceCase {
+    height: usize,
+    rows: Rows,
+}
+
+impl PieceCase {
+    pub fn read(numbers: &mut Numbers) -> Self {
+        PieceCase {
+            height: numbers.size(),
+            rows: Rows::read(numbers),
+        }
+    }
+
+    pub fn run(&self, rt: &impl Print) -> io::Result<()> {
+        let start = rokzimp_piece_start(self.rows.first);
+        let rows = rokzimp_piece_rows(self.height, self.rows.first, self.rows.count);
+        println!(rt; "{start} {rows}")
+    }
 }

@@ -1,196 +1,240 @@
 // The contents of lent samples, by the recipe that tools/make_cases.py gives.
-ghost use Rattle.std.specs.Prelude.{◌<◌};
+ghost use Rattle.std.specs.Prelude.{◌<◌, ◌≤◌};
 
-use crate::fields::Fields;
+use crate::numbers::Numbers;
+use crate::planes::Planes;
 
-// The generator: the next state.
-fn step(x: usize) -> usize
+// The states that follow one, without end.
+#[derive(Drop)]
+struct Generator {
+    state: u32,
+}
+
+impl Iterator for Generator {
+    type Item = u32;
+
+    fn next(&mut self) -> Option<u32> {
+        self.state = self.state.wrapping_mul(1664525).wrapping_add(1013904223);
+        Some(self.state)
+    }
+}
+
+// A number modulo 2^16, as the recipe counts: a conversion that fails would not do.
+pub fn low(x: usize) -> u16 {
+    (x % 0x1_0000) as u16
+}
+
+// A product of two numbers of the recipe. Its bound is for the sums that take it, which do not wrap.
+pub fn times(a: u16, b: u16) -> usize
     ensures { result < 4294967296 }
 {
-    (1664525 * (x % 4294967296) + 1013904223) % 4294967296
+    usize::from(a) * usize::from(b)
 }
 
-fn low(x: usize) -> usize
-    ensures { result < 65536 }
-{
-    x % 65536
+#[derive(Clone, Copy)]
+enum Noise {
+    Even,
+    Coin,
+    // Steps in place of noise.
+    Steps,
+    Rare,
 }
 
-fn narrow(x: usize) -> u16 {
-    (x % 65536) as u16
-}
-
-// The product of two numbers, each modulo 2^16.
-pub fn times(a: usize, b: usize) -> usize
-    ensures { result < 4294967296 }
-{
-    low(a) * low(b)
-}
-
-fn noise(f: &Fields, x: usize, i: usize, j: usize) -> usize
-    ensures { result < 4294967296 }
-{
-    let amount = f[24];
-    if low(f[23]) == 0 {
-        return times(x / 1048576, amount) / 4096;
-    }
-    if low(f[23]) == 1 {
-        return times(x / 2147483648, amount);
-    }
-    if low(f[23]) == 3 {
-        return times((low(i) / 4 + low(j) / 3) % 7, amount);
-    }
-    if x < 268435456 {
-        return times(x / 1048576 % 4, amount);
-    }
-    0
-}
-
-// The step of an edge, from the diagonal on.
-fn edge(f: &Fields, diagonal: usize) -> usize
-    ensures { result < 65536 }
-{
-    if diagonal < low(f[21]) {
-        return 0;
-    }
-    low(f[22])
-}
-
-// A reading of this shape.
-fn shaped(shape: usize, v: usize) -> usize
-    ensures { result < 4096 }
-{
-    if shape == 1 {
-        return v % 4096;
-    }
-    if 4095 <= v {
-        return if shape == 0 { 4095 } else { 0 };
-    }
-    if shape == 0 { v } else { 4095 - v }
-}
-
-// The reading at row i and column j.
-fn reading(f: &Fields, x: usize, i: usize, j: usize) -> u16 {
-    let diagonal = low(i) + low(j);
-    let ramp = low(f[15]) + times(f[16], i) + times(f[17], j);
-    let tiles = times(f[18], i % 2) + times(f[19], j % 2) + times(f[20], diagonal % 2);
-    let v = ramp + tiles + edge(f, diagonal) + noise(f, x, i, j);
-    narrow(shaped(low(f[25]), v))
-}
-
-fn at_least_one(x: usize) -> usize
-    ensures { 0 < result }
-{
-    if x == 0 { 1 } else { x }
-}
-
-fn fill(f: &Fields, piece: &mut [u16]) {
-    let width = at_least_one(f[13]);
-    let first = low(f[30]);
-    let mut x = f[14];
-    let mut t = 0;
-    while t < piece.len() {
-        x = step(x);
-        let row = low(t / width) + first;
-        let column = t % width;
-        piece[t] = reading(f, x, row, column);
-        t += 1;
+impl From<u16> for Noise {
+    fn from(kind: u16) -> Self {
+        match kind {
+            0 => Noise::Even,
+            1 => Noise::Coin,
+            3 => Noise::Steps,
+            _ => Noise::Rare,
+        }
     }
 }
 
-fn put(piece: &mut [u16], at: usize, value: usize) {
-    if at < piece.len() {
-        piece[at] = narrow(value);
+impl Noise {
+    // Its level, which the amount multiplies, at a state of the generator, a row and a column.
+    fn level(self, x: u32, row: u16, column: u16) -> u16 {
+        match self {
+            Noise::Even => (x / 0x10_0000) as u16,
+            Noise::Coin => (x / 0x8000_0000) as u16,
+            Noise::Steps => (row / 4 + column / 3) % 7,
+            Noise::Rare if x < 0x1000_0000 => (x / 0x10_0000 % 4) as u16,
+            Noise::Rare => 0,
+        }
     }
 }
 
-// A piece of the mosaic.
-pub fn piece(f: &Fields, piece: &mut [u16]) {
-    fill(f, piece);
-    put(piece, f[26], f[27]);
-    put(piece, f[28], f[29]);
+// How a value becomes a reading.
+#[derive(Clone, Copy)]
+enum Shape {
+    Stopped,
+    Wrapped,
+    Inverted,
+}
+
+impl From<u16> for Shape {
+    fn from(shape: u16) -> Self {
+        match shape {
+            0 => Shape::Stopped,
+            1 => Shape::Wrapped,
+            _ => Shape::Inverted,
+        }
+    }
+}
+
+impl Shape {
+    fn reading(self, value: usize) -> u16 {
+        match self {
+            Shape::Stopped => value.min(4095) as u16,
+            Shape::Wrapped => (value % 4096) as u16,
+            Shape::Inverted => 4095 - value.min(4095) as u16,
+        }
+    }
+}
+
+// A sample that is set, where there is such a one.
+#[derive(Clone, Copy)]
+pub struct Put {
+    at: usize,
+    value: u16,
+}
+
+impl Put {
+    pub fn read(numbers: &mut Numbers) -> Self {
+        Put {
+            at: numbers.size(),
+            value: numbers.sample(),
+        }
+    }
+
+    pub fn set(self, samples: &mut [u16]) {
+        if let Some(sample) = samples.get_mut(self.at) {
+            *sample = self.value;
+        }
+    }
+}
+
+// The recipe of a piece of the mosaic, and of the planes beside it.
+#[derive(Drop)]
+pub struct Recipe {
+    width: usize,
+    pub seed: u32,
+    base: u16,
+    down: u16,
+    across: u16,
+    odd_row: u16,
+    odd_column: u16,
+    checker: u16,
+    edge: u16,
+    step: u16,
+    noise: Noise,
+    amount: u16,
+    shape: Shape,
+    puts: [Put; 2],
+    first_row: u16,
+}
+
+impl Recipe {
+    pub fn read(numbers: &mut Numbers) -> Self {
+        Recipe {
+            width: numbers.size(),
+            seed: numbers.state(),
+            base: numbers.sample(),
+            down: numbers.sample(),
+            across: numbers.sample(),
+            odd_row: numbers.sample(),
+            odd_column: numbers.sample(),
+            checker: numbers.sample(),
+            edge: numbers.sample(),
+            step: numbers.sample(),
+            noise: Noise::from(numbers.sample()),
+            amount: numbers.sample(),
+            shape: Shape::from(numbers.sample()),
+            puts: [Put::read(numbers), Put::read(numbers)],
+            first_row: numbers.sample(),
+        }
+    }
+
+    fn noise(&self, x: u32, row: u16, column: u16) -> usize
+        ensures { result < 4294967296 }
+    {
+        let noise = times(self.noise.level(x, row, column), self.amount);
+        match self.noise {
+            Noise::Even => noise / 4096,
+            _ => noise,
+        }
+    }
+
+    // The reading at a row and a column of the frame.
+    fn reading(&self, x: u32, row: u16, column: u16) -> u16 {
+        let diagonal = usize::from(row) + usize::from(column);
+        let ramp = usize::from(self.base) + times(self.down, row) + times(self.across, column);
+        let tiles = times(self.odd_row, row % 2)
+            + times(self.odd_column, column % 2)
+            + times(self.checker, low(diagonal) % 2);
+        let step = if diagonal < usize::from(self.edge) {
+            0
+        } else {
+            usize::from(self.step)
+        };
+        let value = ramp + tiles + step + self.noise(x, row, column);
+        self.shape.reading(value)
+    }
+
+    // A piece of the mosaic.
+    fn piece(&self, piece: &mut [u16]) {
+        let width = self.width.max(1);
+        let states = Generator { state: self.seed };
+        for ((t, reading), x) in piece.iter_mut().enumerate().zip(states) {
+            let row = low(t / width).wrapping_add(self.first_row);
+            *reading = self.reading(x, row, low(t % width));
+        }
+        for put in self.puts {
+            put.set(piece);
+        }
+    }
+
+    // What the three planes of a strip hold before a call.
+    fn planes(&self, planes: &mut Planes) {
+        plane(self.seed.wrapping_add(1), planes.red);
+        plane(self.seed.wrapping_add(2), planes.green);
+        plane(self.seed.wrapping_add(3), planes.blue);
+    }
+
+    // What a strip is lent.
+    pub fn fill(&self, piece: &mut [u16], planes: &mut Planes) {
+        self.piece(piece);
+        self.planes(planes);
+    }
 }
 
 // What a plane holds before a call.
-pub fn plane(seed: usize, samples: &mut [u16]) {
-    let mut x = seed;
-    let mut t = 0;
-    while t < samples.len() {
-        x = step(x);
-        samples[t] = narrow(x / 65536);
-        t += 1;
+pub fn plane(seed: u32, samples: &mut [u16]) {
+    for (sample, x) in samples.iter_mut().zip(Generator { state: seed }) {
+        *sample = (x / 0x1_0000) as u16;
     }
 }
 
-// What the three planes of a strip hold before a call.
-pub fn planes(f: &Fields, red: &mut [u16], green: &mut [u16], blue: &mut [u16]) {
-    let seed = f[14] % 4294967296;
-    plane(seed + 1, red);
-    plane(seed + 2, green);
-    plane(seed + 3, blue);
-}
-
-// Bit `cell` of a number.
-fn bit(bits: usize, cell: usize) -> bool {
-    if cell == 0 {
-        return bits % 2 == 1;
-    }
-    if cell == 1 {
-        return bits / 2 % 2 == 1;
-    }
-    if cell == 2 {
-        return bits / 4 % 2 == 1;
-    }
-    bits / 8 % 2 == 1
-}
-
-// Where the bit is set, the sample rounded down to a multiple of 16.
-fn rounded(set: bool, sample: u16) -> u16 {
-    if set { sample / 16 * 16 } else { sample }
-}
-
-// The samples of those cells, by the parities of row and column, whose bit is set, rounded.
+// The samples of those cells, by the parities of row and column, whose bit is set, rounded down to a multiple of 16.
 fn round(width: usize, bits: usize, samples: &mut [u16]) {
-    let w = at_least_one(width);
-    let mut t = 0;
-    while t < samples.len() {
-        let set = bit(bits, t / w % 2 * 2 + t % w % 2);
-        samples[t] = rounded(set, samples[t]);
-        t += 1;
+    let width = width.max(1);
+    for (t, sample) in samples.iter_mut().enumerate() {
+        let cell = t / width % 2 * 2 + t % width % 2;
+        if (bits >> cell) % 2 == 1 {
+            *sample = *sample / 16 * 16;
+        }
     }
 }
 
 // What a plane holds from which the mosaic is given back.
-pub fn camera_plane(seed: usize, width: usize, bits: usize, samples: &mut [u16]) {
+pub fn camera_plane(seed: u32, width: usize, bits: usize, samples: &mut [u16]) {
     plane(seed, samples);
     round(width, bits, samples);
 }
 
-// Sets a sample of the plane of this number: 0 red, 1 green, else blue.
-pub fn put_in(
-    plane: usize,
-    at: usize,
-    value: usize,
-    red: &mut [u16],
-    green: &mut [u16],
-    blue: &mut [u16],
-) {
-    if plane == 0 {
-        put(red, at, value);
-        return;
-    }
-    if plane == 1 {
-        put(green, at, value);
-        return;
-    }
-    put(blue, at, value);
-}
-
 // Samples that count up from a number.
-pub fn count(from: usize, samples: &mut [u16]) {
-    let mut t = 0;
-    while t < samples.len() {
-        samples[t] = narrow(low(from) + low(t));
-        t += 1;
+pub fn count(from: u16, samples: &mut [u16]) {
+    for (t, sample) in samples.iter_mut().enumerate() {
+        *sample = low(t).wrapping_add(from);
     }
 }

@@ -1,137 +1,124 @@
-use crate::fields::{Fields, byte, least};
-use crate::{preview_case, print, recipe};
+// Strip calls, as C calls them: the arguments by their places in include/rokzimp.h.
+use crate::frame::{Frame, Rows};
+use crate::numbers::Numbers;
+use crate::planes::{Lengths, MOST_PIECE, MOST_PLANE, Planes, Room, lent};
+use crate::recipe::Recipe;
+use capi::previews::{
+    rokzimp_preview, rokzimp_preview_check, rokzimp_preview_smoothed,
+    rokzimp_preview_smoothed_check,
+};
 use capi::strips::{
     rokzimp_strip, rokzimp_strip_check, rokzimp_strip_smoothed, rokzimp_strip_smoothed_check,
 };
 use std::io;
 
-// The answer: the two numbers, and the planes.
-fn show(
-    rt: &impl Print,
-    got: u32,
-    first: u32,
-    red: &[u16],
-    green: &[u16],
-    blue: &[u16],
-) -> io::Result<()> {
-    let answer = print::word(got);
-    print!(rt; "{answer}")?;
-    print::number(rt, print::word(first))?;
-    print::plane(rt, red)?;
-    print::plane(rt, green)?;
-    print::plane(rt, blue)?;
-    println!(rt; "")
+#[derive(Clone, Copy)]
+enum Entry {
+    FullSize,
+    Preview,
 }
 
-// The call of rows a to a + n - 1, as C calls it: the arguments by their places in include/rokzimp.h. Entry 1 is the preview; a smoothing above 255 is none that is named.
-pub fn call(
-    f: &Fields,
-    a: usize,
-    n: usize,
-    piece: &[u16],
-    red: &mut [u16],
-    green: &mut [u16],
-    blue: &mut [u16],
-) -> u32 {
-    if f[4] == 1 {
-        return preview_case::call(f, a, n, piece, red, green, blue);
+impl From<usize> for Entry {
+    fn from(entry: usize) -> Self {
+        match entry {
+            1 => Entry::Preview,
+            _ => Entry::FullSize,
+        }
     }
-    let layout = byte(f[3]);
-    if 255 < f[5] {
-        return rokzimp_strip(f[1], f[2], layout, a, n, piece, red, green, blue);
+}
+
+// The numbers of a strip call. A smoothing above 255 is none that is named.
+#[derive(Drop)]
+pub struct StripCase {
+    pub frame: Frame,
+    entry: Entry,
+    smoothing: Option<u8>,
+    pub rows: Rows,
+    pub piece: usize,
+    pub planes: Lengths,
+    pub recipe: Recipe,
+}
+
+impl StripCase {
+    pub fn read(numbers: &mut Numbers) -> Self {
+        let frame = Frame::read(numbers);
+        let entry = Entry::from(numbers.size());
+        let smoothing = u8::try_from(numbers.size()).ok();
+        let _method = numbers.size();
+        StripCase {
+            frame,
+            entry,
+            smoothing,
+            rows: Rows::read(numbers),
+            piece: numbers.size(),
+            planes: Lengths::read(numbers),
+            recipe: Recipe::read(numbers),
+        }
     }
-    rokzimp_strip_smoothed(
-        f[1],
-        f[2],
-        layout,
-        byte(f[5]),
-        a,
-        n,
-        piece,
-        red,
-        green,
-        blue,
-    )
-}
 
-// The number that its check gives.
-fn check(f: &Fields, piece: &[u16], red: usize, green: usize, blue: usize) -> u32 {
-    if f[4] == 1 {
-        return preview_case::check(f, piece, red, green, blue);
+    // The call of these rows.
+    pub fn call(&self, rows: Rows, piece: &[u16], planes: &mut Planes) -> u32 {
+        let Frame {
+            width,
+            height,
+            layout,
+        } = self.frame;
+        let Rows { first, count } = rows;
+        let red = &mut *planes.red;
+        let green = &mut *planes.green;
+        let blue = &mut *planes.blue;
+        match (self.entry, self.smoothing) {
+            (Entry::FullSize, None) => {
+                rokzimp_strip(width, height, layout, first, count, piece, red, green, blue)
+            }
+            (Entry::FullSize, Some(smoothing)) => rokzimp_strip_smoothed(
+                width, height, layout, smoothing, first, count, piece, red, green, blue,
+            ),
+            (Entry::Preview, None) => {
+                rokzimp_preview(width, height, layout, first, count, piece, red, green, blue)
+            }
+            (Entry::Preview, Some(smoothing)) => rokzimp_preview_smoothed(
+                width, height, layout, smoothing, first, count, piece, red, green, blue,
+            ),
+        }
     }
-    let layout = byte(f[3]);
-    if 255 < f[5] {
-        return rokzimp_strip_check(f[1], f[2], layout, f[7], f[8], piece, red, green, blue);
+
+    // The number that its check gives.
+    fn check(&self, piece: &[u16], planes: &Planes) -> u32 {
+        let Frame {
+            width,
+            height,
+            layout,
+        } = self.frame;
+        let Rows { first, count } = self.rows;
+        let red = planes.red.len();
+        let green = planes.green.len();
+        let blue = planes.blue.len();
+        match (self.entry, self.smoothing) {
+            (Entry::FullSize, None) => {
+                rokzimp_strip_check(width, height, layout, first, count, piece, red, green, blue)
+            }
+            (Entry::FullSize, Some(smoothing)) => rokzimp_strip_smoothed_check(
+                width, height, layout, smoothing, first, count, piece, red, green, blue,
+            ),
+            (Entry::Preview, None) => {
+                rokzimp_preview_check(width, height, layout, first, count, piece, red, green, blue)
+            }
+            (Entry::Preview, Some(smoothing)) => rokzimp_preview_smoothed_check(
+                width, height, layout, smoothing, first, count, piece, red, green, blue,
+            ),
+        }
     }
-    rokzimp_strip_smoothed_check(
-        f[1],
-        f[2],
-        layout,
-        byte(f[5]),
-        f[7],
-        f[8],
-        piece,
-        red,
-        green,
-        blue,
-    )
-}
 
-fn check_and_call(
-    rt: &impl Print,
-    f: &Fields,
-    piece: &[u16],
-    red: &mut [u16],
-    green: &mut [u16],
-    blue: &mut [u16],
-) -> io::Result<()> {
-    let first = check(f, piece, red.len(), green.len(), blue.len());
-    let got = call(f, f[7], f[8], piece, red, green, blue);
-    show(rt, got, first, red, green, blue)
-}
-
-// Lent samples as the case asks for.
-fn lend(
-    rt: &impl Print,
-    f: &Fields,
-    piece: &mut [u16],
-    red: &mut [u16],
-    green: &mut [u16],
-    blue: &mut [u16],
-) -> io::Result<()> {
-    recipe::piece(f, piece);
-    recipe::planes(f, red, green, blue);
-    check_and_call(rt, f, piece, red, green, blue)
-}
-
-// As much of the room as the case asks for.
-fn cut(
-    rt: &impl Print,
-    f: &Fields,
-    piece: &mut [u16],
-    red: &mut [u16],
-    green: &mut [u16],
-    blue: &mut [u16],
-) -> io::Result<()> {
-    let p = least(f[9], piece.len());
-    let r = least(f[10], red.len());
-    let g = least(f[11], green.len());
-    let b = least(f[12], blue.len());
-    lend(
-        rt,
-        f,
-        &mut piece[0..p],
-        &mut red[0..r],
-        &mut green[0..g],
-        &mut blue[0..b],
-    )
-}
-
-// A strip call.
-pub fn run(rt: &impl Print, f: &Fields) -> io::Result<()> {
-    let mut piece = [0u16; 90112];
-    let mut red = [0u16; 32776];
-    let mut green = [0u16; 32776];
-    let mut blue = [0u16; 32776];
-    cut(rt, f, &mut piece, &mut red, &mut green, &mut blue)
+    // The answer: the number of the call, that of its check, and the planes.
+    pub fn run(&self, rt: &impl Print) -> io::Result<()> {
+        let mut piece = [0u16; MOST_PIECE];
+        let mut room = Room::<MOST_PLANE>::new();
+        let piece = lent(&mut piece, self.piece);
+        let mut planes = room.lent(self.planes);
+        self.recipe.fill(piece, &mut planes);
+        let checked = self.check(piece, &planes);
+        let called = self.call(self.rows, piece, &mut planes);
+        println!(rt; "{called} {checked} {planes}")
+    }
 }

@@ -1,57 +1,91 @@
 // Test frames, as C calls them: the arguments by their places in include/rokzimp.h.
-use crate::fields::{Fields, least};
-use crate::{print, recipe};
+use crate::numbers::Numbers;
+use crate::planes::{MOST_PLANE, lent};
+use crate::recipe::plane;
+use crate::summary::Summary;
 use capi::test_readings::{rokzimp_jump, rokzimp_test_frame, rokzimp_test_row};
 use std::io;
 
-fn state(x: usize) -> u32 {
-    (x % 4294967296) as u32
+#[derive(Drop)]
+pub struct JumpCase {
+    state: u32,
+    steps: usize,
 }
 
-// A jump.
-pub fn run_jump(rt: &impl Print, f: &Fields) -> io::Result<()> {
-    let answer = print::word(rokzimp_jump(state(f[1]), print::size(f[2])));
-    println!(rt; "{answer}")
+impl JumpCase {
+    pub fn read(numbers: &mut Numbers) -> Self {
+        JumpCase {
+            state: numbers.state(),
+            steps: numbers.size(),
+        }
+    }
+
+    pub fn run(&self, rt: &impl Print) -> io::Result<()> {
+        let state = rokzimp_jump(self.state, self.steps as u64);
+        println!(rt; "{state}")
+    }
 }
 
-// The answer: the number, and what was lent.
-fn show(rt: &impl Print, number: u32, lent: &[u16]) -> io::Result<()> {
-    let answer = print::word(number);
-    print!(rt; "{answer}")?;
-    print::plane(rt, lent)?;
-    println!(rt; "")
+// A whole frame, in one of this length that is lent and holds readings from the seed `held`.
+#[derive(Drop)]
+pub struct TestFrameCase {
+    seed: u32,
+    width: usize,
+    height: usize,
+    length: usize,
+    held: u32,
 }
 
-fn frame(rt: &impl Print, f: &Fields, lent: &mut [u16]) -> io::Result<()> {
-    recipe::plane(f[5], lent);
-    let number = rokzimp_test_frame(state(f[1]), f[2], f[3], lent);
-    show(rt, number, lent)
+impl TestFrameCase {
+    pub fn read(numbers: &mut Numbers) -> Self {
+        TestFrameCase {
+            seed: numbers.state(),
+            width: numbers.size(),
+            height: numbers.size(),
+            length: numbers.size(),
+            held: numbers.state(),
+        }
+    }
+
+    pub fn run(&self, rt: &impl Print) -> io::Result<()> {
+        let mut room = [0u16; MOST_PLANE];
+        let frame = lent(&mut room, self.length);
+        plane(self.held, frame);
+        let number = rokzimp_test_frame(self.seed, self.width, self.height, frame);
+        let frame = Summary::of(frame);
+        println!(rt; "{number} {frame}")
+    }
 }
 
-fn cut_frame(rt: &impl Print, f: &Fields, room: &mut [u16]) -> io::Result<()> {
-    let n = least(f[4], room.len());
-    frame(rt, f, &mut room[0..n])
+// One row of it.
+#[derive(Drop)]
+pub struct TestRowCase {
+    seed: u32,
+    width: usize,
+    height: usize,
+    row: usize,
+    length: usize,
+    held: u32,
 }
 
-// A whole frame.
-pub fn run_frame(rt: &impl Print, f: &Fields) -> io::Result<()> {
-    let mut room = [0u16; 32776];
-    cut_frame(rt, f, &mut room)
-}
+impl TestRowCase {
+    pub fn read(numbers: &mut Numbers) -> Self {
+        TestRowCase {
+            seed: numbers.state(),
+            width: numbers.size(),
+            height: numbers.size(),
+            row: numbers.size(),
+            length: numbers.size(),
+            held: numbers.state(),
+        }
+    }
 
-fn row(rt: &impl Print, f: &Fields, lent: &mut [u16]) -> io::Result<()> {
-    recipe::plane(f[6], lent);
-    let number = rokzimp_test_row(state(f[1]), f[2], f[3], f[4], lent);
-    show(rt, number, lent)
-}
-
-fn cut_row(rt: &impl Print, f: &Fields, room: &mut [u16]) -> io::Result<()> {
-    let n = least(f[5], room.len());
-    row(rt, f, &mut room[0..n])
-}
-
-// One row.
-pub fn run_row(rt: &impl Print, f: &Fields) -> io::Result<()> {
-    let mut room = [0u16; 4104];
-    cut_row(rt, f, &mut room)
+    pub fn run(&self, rt: &impl Print) -> io::Result<()> {
+        let mut room = [0u16; 4104];
+        let row = lent(&mut room, self.length);
+        plane(self.held, row);
+        let number = rokzimp_test_row(self.seed, self.width, self.height, self.row, row);
+        let row = Summary::of(row);
+        println!(rt; "{number} {row}")
+    }
 }

@@ -5,7 +5,7 @@ ghost use Rattle.demosaic.specs.Fill.{colour_difference, sum_of, unclamped};
 pub fn colour_difference(green: u16, reading: u16) -> i32
     ensures { (result ≡ colour_difference green reading) × (nat_abs result ≤ 1048560) }
 {
-    green as i32 - 16 * (reading as i32)
+    i32::from(green) - 16 * i32::from(reading)
 }
 
 // n - sum + half.
@@ -21,7 +21,7 @@ pub fn diagonal(g: u16, nw: i32, ne: i32, sw: i32, se: i32) -> i32
     requires { (nat_abs nw ≤ 1048560) × (nat_abs ne ≤ 1048560) × (nat_abs sw ≤ 1048560) × (nat_abs se ≤ 1048560) }
     ensures { result ≡ unclamped 4 g (sum_of (nw ∷ ne ∷ sw ∷ se ∷ [])) }
 {
-    lifted(4 * (g as u32), nw + ne + (sw + se), 2) >> 2
+    lifted(4 * u32::from(g), nw + ne + (sw + se), 2) >> 2
 }
 
 // From the two neighbours in the row, or in the column.
@@ -29,5 +29,5 @@ pub fn pair(g: u16, before: i32, after: i32) -> i32
     requires { (nat_abs before ≤ 1048560) × (nat_abs after ≤ 1048560) }
     ensures { result ≡ unclamped 2 g (sum_of (before ∷ after ∷ [])) }
 {
-    lifted(2 * (g as u32), before + after, 1) >> 1
+    lifted(2 * u32::from(g), before + after, 1) >> 1
 }

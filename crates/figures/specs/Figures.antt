@@ -8,8 +8,9 @@ use Rattle.bayer.specs.declared.frame.Frame.{Frame}
 use Rattle.bayer.specs.Frame.{frame, smoothed}
 use Rattle.bayer.specs.Mirror.{mirror}
 use Rattle.bayer.specs.Planes.{three_planes}
-use Rattle.bayer.specs.Refusal.{Refusal, number, first_of}
-use Rattle.bayer.specs.Refusal.{size_out_of_range, unknown_layout, rows_outside_frame, wrong_piece_length, wrong_plane_length, reading_out_of_range, row_missing, malformed_file, not_camera_planes, unknown_smoothing, over_preview_size}
+use Rattle.bayer.specs.declared.refusal.Refusal.{Refusal}
+use Rattle.bayer.specs.Refusal.{number, first_of}
+use Rattle.bayer.specs.declared.refusal.Refusal.TheVariants.{SizeOutOfRange, UnknownLayout, RowsOutsideFrame, WrongPieceLength, WrongPlaneLength, ReadingOutOfRange, RowMissing, MalformedFile, NotCameraPlanes, UnknownSmoothing, OverPreviewSize}
 use Rattle.bayer.specs.Condition.{size_cases}
 use Rattle.gbtf.specs.declared.direction.Direction.{Direction}
 use Rattle.gbtf.specs.Difference.{difference}
@@ -110,9 +111,9 @@ figures =
     ∷ mirror_reads 2 (negsuc 2) 1 ∷ mirror_reads 2 (pos 4) 0 ∷ mirror_reads 3 (pos 7) 1
     ∷ sizes_are 1 8 1 ∷ sizes_are 8 1 1 ∷ sizes_are 2 2 0 ∷ sizes_are 4096 4096 0 ∷ sizes_are 4097 8 1 ∷ sizes_are 8 4097 1
     ∷ printed_is Red 155 ∷ printed_is Green 53 ∷ printed_is Blue 155
-    ∷ number_is size_out_of_range 1 ∷ number_is unknown_layout 2 ∷ number_is rows_outside_frame 3 ∷ number_is wrong_piece_length 4
-    ∷ number_is wrong_plane_length 5 ∷ number_is reading_out_of_range 6 ∷ number_is row_missing 7 ∷ number_is malformed_file 8
-    ∷ number_is not_camera_planes 9 ∷ number_is unknown_smoothing 10 ∷ number_is over_preview_size 11
+    ∷ number_is SizeOutOfRange 1 ∷ number_is UnknownLayout 2 ∷ number_is RowsOutsideFrame 3 ∷ number_is WrongPieceLength 4
+    ∷ number_is WrongPlaneLength 5 ∷ number_is ReadingOutOfRange 6 ∷ number_is RowMissing 7 ∷ number_is MalformedFile 8
+    ∷ number_is NotCameraPlanes 9 ∷ number_is UnknownSmoothing 10 ∷ number_is OverPreviewSize 11
     ∷ nothing_lent_is FullSize 8 8 0 0 0 0 3 ∷ nothing_lent_is FullSize 8 8 0 1 0 0 3 ∷ nothing_lent_is FullSize 8 8 0 2 0 0 10 ∷ nothing_lent_is FullSize 8 8 0 255 0 0 10 ∷ nothing_lent_is FullSize 8 8 4 2 0 0 2
     ∷ nothing_lent_is Preview 1024 80 0 1 0 64 4 ∷ nothing_lent_is Preview 1025 80 0 1 0 64 11 ∷ nothing_lent_is Preview 1024 80 0 1 0 65 11 ∷ nothing_lent_is FullSize 1025 80 0 1 0 65 4
     ∷ nothing_lent_is Preview 4097 80 4 2 0 81 1 ∷ nothing_lent_is Preview 1025 80 4 2 0 81 2 ∷ nothing_lent_is Preview 1025 80 0 2 0 81 10 ∷ nothing_lent_is Preview 1025 80 0 1 0 81 3

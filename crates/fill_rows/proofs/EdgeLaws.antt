@@ -9,8 +9,8 @@ use lib.ListN.{length, get_or, set, take, drop, length-append, length-take, leng
 use lib.Seq.{get_or-set_same, get_or-set_other, ext_get_or}
 use Rattle.whole.proofs.Pairs.{sub-pos, natₚ, ◌-ₚ◌, within_by}
 use Rattle.lists.specs.Table.{table}
-use Rattle.lists.specs.Bound.{AllAtMost}
-use Rattle.lists.proofs.TableLaws.{length-table, get_or-table, table_same}
+use Rattle.lists.specs.Bound.{AllAtMost, AllWithin}
+use Rattle.lists.proofs.TableLaws.{length-table, get_or-table, table-all, table_same}
 use Rattle.lists.proofs.PartLaws.{placed, get_or_part}
 use Rattle.bayer.specs.Mirror.{mirror}
 use Rattle.bayer.proofs.MirrorLaws.{once-below, once-above}
@@ -23,11 +23,7 @@ use Rattle.fill_rows.proofs.FilledLaws.{taken, taken_is}
 
 -- ---- how it is made: m entries by a rule, after the first place, then the first place, the one after them and the last
 
-module _ (f : ℕ → ℤ) (small : (k : ℕ) → nat_abs (f k) ≤ 1048560) where
-  -- an entry that is f k, where it is read
-  read : (l : List ℤ) (p k : ℕ) → get_or l p (pos 0) ≡ f k → taken l p ≡ f k
-  read l p k e = taken_is l p e (small k)
-
+module _ (f : ℕ → ℤ) where
   -- a store of f i at place i: place k has f k if it had, or is place i
   stored : (l : List ℤ) (i k : ℕ) {a : ℤ} → i < length l → a ≡ f i → ((k ≡ i → ⊥) → get_or l k (pos 0) ≡ f k) → get_or (set l i a) k (pos 0) ≡ f k
   stored l i k {a} h e had =
@@ -43,7 +39,7 @@ module _ (f : ℕ → ℤ) (small : (k : ℕ) → nat_abs (f k) ≤ 1048560) whe
       other : (k ≡ i → ⊥) → get_or (set l i a) k (pos 0) ≡ f k
       other q = get_or-set_other l i k a (pos 0) q ∙ had q
 
-  module _ (m : ℕ) (d ys : List ℤ) (some : 1 ≤ m) (low : m + 2 ≤ length d) (high : length d ≤ m + 3) (is : ys ≡ table (λ k. f (1 + k)) m) where
+  module _ (m : ℕ) (d ys : List ℤ) (some : 1 ≤ m) (low : m + 2 ≤ length d) (high : length d ≤ m + 3) (is : ys ≡ table (λ k. f (1 + k)) m) (small : AllWithin 1048560 ys) where
     abbrev l₀ : List ℤ
     l₀ = placed 1 (m + 1) d ys
 
@@ -67,6 +63,13 @@ module _ (f : ℕ → ℤ) (small : (k : ℕ) → nat_abs (f k) ≤ 1048560) whe
             let t : k < length ys = rw (is, length-table) (omega arith) in
             get_or-append ys _ (pos 0) k t ∙ rw is (get_or-table _ m k (pos 0) (omega arith)) ∙ ap f e
 
+    -- one of these entries, where it is read
+    read : (l : List ℤ) (k : ℕ) → 1 ≤ k → k ≤ m → get_or l k (pos 0) ≡ f k → taken l k ≡ f k
+    read l k h n e =
+        let i : 1 + (k - 1) ≡ k = omega arith in
+        let is-f : get_or ys (k - 1) (pos 0) ≡ f k = rw is (get_or-table _ m (k - 1) (pos 0) (omega arith)) ∙ ap f i in
+        taken_is l k e (rw is-f at (small (k - 1)))
+
     framed : f 1 ≡ f 0 → f m ≡ f (m + 1) → f m ≡ f (length d - 1) → set l₂ (length d - 1) (taken l₂ m) ≡ table f (length d)
     framed first after last =
         ext_get_or (pos 0) _ _ (simp (length-set, long, length-table))
@@ -75,17 +78,20 @@ module _ (f : ℕ → ℤ) (small : (k : ℕ) → nat_abs (f k) ≤ 1048560) whe
         ∙ sym (get_or-table f (length d) k (pos 0) (simp (length-set, long) at h)))
       where
         begun : (k : ℕ) → ((k ≡ 0 → ⊥) → get_or l₀ k (pos 0) ≡ f k) → get_or l₁ k (pos 0) ≡ f k
-        begun k = stored l₀ 0 k (rw long (omega arith)) (read l₀ 1 1 (inner 1 (omega arith) some) ∙ first)
+        begun k = stored l₀ 0 k (rw long (omega arith)) (read l₀ 1 (omega arith) some (inner 1 (omega arith) some) ∙ first)
 
         second : (k : ℕ) → ((k ≡ m + 1 → ⊥) → get_or l₁ k (pos 0) ≡ f k) → get_or l₂ k (pos 0) ≡ f k
-        second k = stored l₁ (m + 1) k (simp (length-set, long) (omega arith)) (read l₁ m m (begun m (λ _. inner m some (omega arith))) ∙ after)
+        second k = stored l₁ (m + 1) k (simp (length-set, long) (omega arith)) (read l₁ m some (omega arith) (begun m (λ _. inner m some (omega arith))) ∙ after)
 
         third : (k : ℕ) → ((k ≡ length d - 1 → ⊥) → get_or l₂ k (pos 0) ≡ f k) → get_or (set l₂ (length d - 1) (taken l₂ m)) k (pos 0) ≡ f k
-        third k = stored l₂ (length d - 1) k (simp (length-set, long) (omega arith)) (read l₂ m m (second m (λ _. begun m (λ _. inner m some (omega arith)))) ∙ last)
+        third k = stored l₂ (length d - 1) k (simp (length-set, long) (omega arith)) (read l₂ m some (omega arith) (second m (λ _. begun m (λ _. inner m some (omega arith)))) ∙ last)
 
 -- what a reading and a green of 16 bits can differ by
 pub small-difference : (x g : List ℕ) → AllAtMost 65535 x → AllAtMost 65535 g → (p : ℕ) → nat_abs (colour_difference_at x g p) ≤ 1048560
 small-difference x g hx hg p = within_by (natₚ (get_or g p 0) -ₚ natₚ (16 * get_or x p 0)) (omega (arith, hg p)) (omega (arith, hx p))
+
+pub small-differences : (x g : List ℕ) (n : ℕ) {l : List ℤ} → AllAtMost 65535 x → AllAtMost 65535 g → l ≡ table (λ k. colour_difference_at x g (2 * k)) n → AllWithin 1048560 l
+small-differences x g n hx hg e = rw e (table-all (λ z. nat_abs z ≤ 1048560) _ n (omega arith) (λ k _. small-difference x g hx hg (2 * k)))
 
 -- how many pixels there are, and the place k of the one left of column j
 pixels-many : (w side : ℕ) → side < 2 → 1 ≤ w → (w ≤ 2 * pixels w side + side) × (2 * pixels w side + side ≤ w + 1)
@@ -116,17 +122,18 @@ module _ (w side : ℕ) (x g : List ℕ) where
   edged-length = length-table rule (places w)
 
   -- from the differences at every second column of the part from column `side` on
-  pub edged-made : (d : List ℤ) {ys : List ℤ} {n : ℕ} → side < 2 → 2 ≤ w → length x ≡ w → length g ≡ w → AllAtMost 65535 x → AllAtMost 65535 g → length d ≡ places w → n ≡ m
-      → ys ≡ table (λ k. colour_difference_at (take (length x - side) (drop side x)) (take (length g - side) (drop side g)) (2 * k)) n →
-      let l = placed 1 (m + 1) d ys in
+  pub edged-made : (d : List ℤ) {ys : List ℤ} {n k : ℕ} → side < 2 → 2 ≤ w → length x ≡ w → length g ≡ w → length d ≡ places w → n ≡ m → k ≡ m
+      → ys ≡ table (λ k. colour_difference_at (take (length x - side) (drop side x)) (take (length g - side) (drop side g)) (2 * k)) n → AllWithin 1048560 ys →
+      let l = placed 1 (k + 1) d ys in
       let r = set l 0 (taken l 1) in
-      let s = set r (m + 1) (taken r m) in
-      set s (length d - 1) (taken s m) ≡ edged w side x g
+      let s = set r (k + 1) (taken r k) in
+      set s (length d - 1) (taken s k) ≡ edged w side x g
   unfolding edged
-  edged-made d {ys} {n} o wide lx lg hx hg h i e =
-      framed rule (λ k. small-difference x g hx hg _) m d ys (omega arith) (omega arith) (omega arith) (e ∙ table_same _ _ n inner ∙ ap (table (λ k. rule (1 + k))) i)
+  edged-made d {ys} {n} o wide lx lg h i last e small =
+      rw last
+      (framed rule m d ys (omega arith) (omega arith) (omega arith) (e ∙ table_same _ _ n inner ∙ ap (table (λ k. rule (1 + k))) i) small
       (at 1 0 (omega arith)) (at m (m + 1) (omega arith)) (at m (length d - 1) (omega arith))
-      ∙ ap (table rule) h
+      ∙ ap (table rule) h)
     where
       at : (a b : ℕ) → 2 * min (a - 1) (m - 1) + side ≡ 2 * min (b - 1) (m - 1) + side → rule a ≡ rule b
       at a b t = ap (colour_difference_at x g) t

@@ -6,7 +6,7 @@ use lib.IntN.{ℤ, pos, nat_abs}
 use lib.ListN.{get_or}
 use mir.Syntax.{w32}
 use mir.Val.{of_z, to_z}
-use Rattle.whole.proofs.Signed.{int, value, bounded}
+use Rattle.whole.proofs.Signed.{int, value}
 use Rattle.lists.specs.Bound.{AllWithin}
 use Rattle.demosaic.specs.Fill.{sum_of, unclamped}
 
@@ -21,16 +21,7 @@ taken l k = to_z w32 (of_z w32 (entry l k))
 pub taken_is : (l : List ℤ) (k : ℕ) {z : ℤ} → entry l k ≡ z → nat_abs z ≤ 1048560 → taken l k ≡ z
 taken_is l k {z} e h = ap (λ z. to_z w32 (of_z w32 z)) e ∙ value {w = w32} (int z 1048560 h) tt
 
-taken-within : (l : List ℤ) → AllWithin 1048560 l → (k : ℕ) → nat_abs (taken l k) ≤ 1048560
-taken-within l h k = bounded (int {w = w32} (entry l k) 1048560 (h k)) tt
-
 module _ (a b : List ℤ) (ha : AllWithin 1048560 a) (hb : AllWithin 1048560 b) where
-  pub two-within : (k : ℕ) → (nat_abs (taken a k) ≤ 1048560) × (nat_abs (taken b k) ≤ 1048560)
-  two-within k = (taken-within a ha k, taken-within b hb k)
-
-  pub four-within : (k n : ℕ) → (nat_abs (taken a k) ≤ 1048560) × (nat_abs (taken a n) ≤ 1048560) × (nat_abs (taken b k) ≤ 1048560) × (nat_abs (taken b n) ≤ 1048560)
-  four-within k n = (taken-within a ha k, taken-within a ha n, taken-within b hb k, taken-within b hb n)
-
   pub two-same : (g k : ℕ) → unclamped 2 g (sum_of (taken a k ∷ taken b k ∷ [])) ≡ unclamped 2 g (sum_of (entry a k ∷ entry b k ∷ []))
   two-same g k = λ t. unclamped 2 g (sum_of (taken_is a k refl (ha k) t ∷ taken_is b k refl (hb k) t ∷ []))
 

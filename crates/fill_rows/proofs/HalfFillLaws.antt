@@ -1,16 +1,13 @@
 -- The half rows that are filled in make the rows that the definitions say, and these are what the mirrors give. Assumes nothing.
 use Prim.Native.Nat.{ℕ, ◌+◌, ◌-◌, ◌*◌, ◌/◌, ◌%◌, ◌≤◌, ◌<◌}
 use mathlib.Core.Path.{◌≡◌, refl, ap, ap₂, ◌∙◌}
-use mathlib.Core.List.{List, [], ◌∷◌, ◌++◌}
+use mathlib.Core.List.{List, [], ◌∷◌}
 use native.Mathlib.Omega.{arith}
-use lib.IntN.{ℤ, pos, nat_abs}
-use lib.ListN.{length, get_or, take, drop, length-append, length-take, length-drop}
-use lib.Seq.{length-take-le, take_at}
+use lib.IntN.{ℤ, pos}
+use lib.ListN.{length, get_or, take, drop}
 use Rattle.lists.specs.Table.{table}
-use Rattle.lists.specs.Bound.{AllWithin}
-use Rattle.lists.proofs.TableLaws.{length-table, table_same}
-use Rattle.lists.proofs.PartLaws.{get_or_part}
-use Rattle.lists.proofs.BoundLaws.{all-part}
+use Rattle.lists.proofs.TableLaws.{table_same}
+use Rattle.lists.proofs.PartLaws.{get_or-from}
 use Rattle.half_rows.specs.HalfRow.{pixels, interleaved}
 use Rattle.half_rows.proofs.HalfLaws.{choice-same, from_halves}
 use Rattle.demosaic.specs.Fill.{sum_of, fill}
@@ -22,61 +19,11 @@ use Rattle.fill_rows.proofs.EdgeLaws.{at-pixel, at_left, at_right}
 abbrev from : {A : Type 0} → (a : ℕ) → List A → List A
 from a l = take (length l - a) (drop a l)
 
-from_at : {A : Type 0} (a : ℕ) (l : List A) (k n : ℕ) (d : A) → a + k < length l → a + k ≡ n → get_or (from a l) k d ≡ get_or l n d
-from_at a l k n d h e = get_or_part a (length l - a) l k d (omega arith) ∙ ap (λ i. get_or l i d) e
-
-pub within-from : (a : ℕ) (l : List ℤ) → AllWithin 1048560 l → AllWithin 1048560 (from a l)
-within-from a l h = all-part (λ z. nat_abs z ≤ 1048560) (pos 0) (omega arith) a (length l - a) l h
-
 abbrev two : (g : ℕ) (a b : ℤ) → ℕ
 two g a b = fill 2 g (sum_of (a ∷ b ∷ []))
 
 abbrev four : (g : ℕ) (a b c d : ℤ) → ℕ
 four g a b c d = fill 4 g (sum_of (a ∷ b ∷ c ∷ d ∷ []))
-
--- ---- the room p and q, of which the half rows of a row w wide take the front
-
-from-length : {A : Type 0} (a : ℕ) (l : List A) {n : ℕ} → length l ≡ n → length (from a l) ≡ n - a
-from-length a l e = simp (length-take, length-drop) (omega arith)
-
-module _ (w odd : ℕ) (o : odd < 2) where
-  -- the halves fit, and are as long
-  pub halves-fit : (n : ℕ) → w ≤ 2 * n → (pixels w odd ≤ n) × (w - pixels w odd ≤ n)
-  halves-fit n h = omega arith
-
-  cut : (n : ℕ) (l : List ℕ) → n ≤ length l → length (take (n - 0) l) ≡ n
-  cut n l h = let i : n - 0 ≡ n = omega arith in ap (λ k. length (take k l)) i ∙ length-take-le n l h
-
-  pub cut-first : (p : List ℕ) → w ≤ 2 * length p → length (take (pixels w odd - 0) p) ≡ pixels w odd
-  cut-first p h = cut (pixels w odd) p (halves-fit (length p) h).0
-
-  pub cut-second : (q : List ℕ) → w ≤ 2 * length q → length (take (w - pixels w odd - 0) q) ≡ w - pixels w odd
-  cut-second q h = cut (w - pixels w odd) q (halves-fit (length q) h).1
-
-  pub halves-make : {p q n : ℕ} → p ≡ pixels w odd → q ≡ w - pixels w odd → n ≡ w → (odd < 2) × (n ≡ p + q) × (p ≡ pixels n odd)
-  halves-make p q n = rw (p, q, n) (o, omega arith, refl)
-
-  -- what is read at green from the places a and b on of two lists, and at the colour's pixels from place `odd` on of two
-  module _ (g : List ℕ) (long : length g ≡ w) (some : 1 ≤ w) {n : ℕ} (d e : List ℤ) (hd : length d ≡ places w) (he : length e ≡ places w) where
-    pub pairs-fit : (a b : ℕ) → a ≤ 2 → b ≤ 2 → n ≡ w - pixels w odd → (2 * n ≤ length (from (1 - odd) g) + 1) × (n ≤ length (from a d)) × (n ≤ length (from b e))
-    pairs-fit a b ha hb i = rw (from-length (1 - odd) g long, from-length a d hd, from-length b e he, i) (omega arith)
-
-    pub diagonals-fit : n ≡ pixels w odd → (2 * n ≤ length (from odd g) + 1) × (n < length (from odd d)) × (n < length (from odd e))
-    diagonals-fit i = rw (from-length odd g long, from-length odd d hd, from-length odd e he, i) (omega arith)
-
--- a half row of n places, at the front
-module _ (n : ℕ) (F : ℕ → ℕ) {i : ℕ} {l : List ℕ} (rest : List ℕ) (h : i ≡ n) (e : l ≡ table F i) where
-  made-long : length l ≡ n
-  made-long = ap length e ∙ length-table F i ∙ h
-
-  pub front_fits : n ≤ length (l ++ rest)
-  front_fits = rw (length-append, made-long) (omega arith)
-
-  pub front : take (n - 0) (l ++ rest) ≡ table F n
-  front = let z : n ≡ n - 0 = omega arith in take_at l rest (n - 0) (made-long ∙ z) ∙ e ∙ ap (table F) h
-
-  pub front_long : length (take (n - 0) (l ++ rest)) ≡ n
-  front_long = ap length front ∙ length-table F n
 
 -- ---- the colour that shares the row with green
 
@@ -89,21 +36,21 @@ module _ (odd : ℕ) (x g : List ℕ) (e : List ℤ) (o : odd < 2) where
   abbrev filled : ℕ → ℕ
   filled j = two (get_or g j 0) (get_or e ((j + 1 - odd) / 2) (pos 0)) (get_or e ((j + 1 - odd) / 2 + 1) (pos 0))
 
-  pub own-done : {p q out : List ℕ} {n : ℕ} →
+  pub own-done : {p q out : List ℕ} {i j n : ℕ} →
       let w = length x in
-      length g ≡ w → length e ≡ places w → n ≡ w
-      → p ≡ table (λ k. 16 * get_or (from odd x) (2 * k) 0) (pixels w odd)
-      → q ≡ table (pair_in (from (1 - odd) g) (from (1 - odd) e) (from (1 - odd + 1) e)) (w - pixels w odd)
+      length g ≡ w → length e ≡ places w → i ≡ pixels w odd → j ≡ w - pixels w odd → n ≡ w
+      → p ≡ table (λ k. 16 * get_or (from odd x) (2 * k) 0) i
+      → q ≡ table (pair_in (from (1 - odd) g) (from (1 - odd) e) (from (1 - odd + 1) e)) j
       → out ≡ table (interleaved odd p q) n → out ≡ table (own_edged odd x g e) w
   unfolding own_edged pair_in
-  own-done lg le n p q out =
-      from_halves (λ j. 16 * get_or x j 0) filled odd (length x) o refl refl n p q out
-      (λ k l. ap (λ n. 16 * n) (from_at odd x (2 * k) (2 * k + odd) 0 (omega arith) (omega arith)))
+  own-done lg le i j n p q out =
+      from_halves (λ j. 16 * get_or x j 0) filled odd (length x) o i j n p q out
+      (λ k l. ap (λ n. 16 * n) (get_or-from odd x (2 * k) (2 * k + odd) 0 (omega arith) (omega arith)))
       (λ k l.
       let b = between odd k o in
-      λ t. two (from_at (1 - odd) g (2 * k) (2 * k + (1 - odd)) 0 (omega arith) (omega arith) t)
-      (from_at (1 - odd) e k ((2 * k + (1 - odd) + 1 - odd) / 2) (pos 0) (omega arith) (omega arith) t)
-      (from_at (1 - odd + 1) e k ((2 * k + (1 - odd) + 1 - odd) / 2 + 1) (pos 0) (omega arith) (omega arith) t))
+      λ t. two (get_or-from (1 - odd) g (2 * k) (2 * k + (1 - odd)) 0 (omega arith) (omega arith) t)
+      (get_or-from (1 - odd) e k ((2 * k + (1 - odd) + 1 - odd) / 2) (pos 0) (omega arith) (omega arith) t)
+      (get_or-from (1 - odd + 1) e k ((2 * k + (1 - odd) + 1 - odd) / 2 + 1) (pos 0) (omega arith) (omega arith) t))
 
 -- ---- the other colour
 
@@ -118,27 +65,27 @@ module _ (odd : ℕ) (g : List ℕ) (above below : List ℤ) (o : odd < 2) where
   abbrev level : ℕ → ℕ
   level j = two (get_or g j 0) (get_or above (j / 2 + 1) (pos 0)) (get_or below (j / 2 + 1) (pos 0))
 
-  pub other-done : {p q out : List ℕ} {n : ℕ} →
+  pub other-done : {p q out : List ℕ} {i j n : ℕ} →
       let w = length g in
-      length above ≡ places w → length below ≡ places w → n ≡ w
-      → p ≡ table (diagonal_in (from odd g) (from odd above) (from odd below)) (pixels w odd)
-      → q ≡ table (pair_in (from (1 - odd) g) (from 1 above) (from 1 below)) (w - pixels w odd)
+      length above ≡ places w → length below ≡ places w → i ≡ pixels w odd → j ≡ w - pixels w odd → n ≡ w
+      → p ≡ table (diagonal_in (from odd g) (from odd above) (from odd below)) i
+      → q ≡ table (pair_in (from (1 - odd) g) (from 1 above) (from 1 below)) j
       → out ≡ table (interleaved odd p q) n → out ≡ table (other_edged odd g above below) w
   unfolding other_edged diagonal_in pair_in
-  other-done ha hb n p q out =
-      from_halves crossed level odd (length g) o refl refl n p q out
+  other-done ha hb i j n p q out =
+      from_halves crossed level odd (length g) o i j n p q out
       (λ k l.
       let n = (2 * k + odd + odd) / 2 in
       let i : odd + k ≡ n = omega (arith, over odd k o) in
       let i' : odd + (k + 1) ≡ n + 1 = omega arith in
       let h : odd + (k + 1) < places (length g) = omega arith in
-      λ t. four (from_at odd g (2 * k) (2 * k + odd) 0 (omega arith) (omega arith) t)
-      (from_at odd above k n (pos 0) (omega arith) i t) (from_at odd above (k + 1) (n + 1) (pos 0) (omega arith) i' t)
-      (from_at odd below k n (pos 0) (omega arith) i t) (from_at odd below (k + 1) (n + 1) (pos 0) (omega arith) i' t))
+      λ t. four (get_or-from odd g (2 * k) (2 * k + odd) 0 (omega arith) (omega arith) t)
+      (get_or-from odd above k n (pos 0) (omega arith) i t) (get_or-from odd above (k + 1) (n + 1) (pos 0) (omega arith) i' t)
+      (get_or-from odd below k n (pos 0) (omega arith) i t) (get_or-from odd below (k + 1) (n + 1) (pos 0) (omega arith) i' t))
       (λ k l.
       let n = (2 * k + (1 - odd)) / 2 + 1 in
       let i : 1 + k ≡ n = omega (arith, over odd k o) in
-      λ t. two (from_at (1 - odd) g (2 * k) (2 * k + (1 - odd)) 0 (omega arith) (omega arith) t) (from_at 1 above k n (pos 0) (omega arith) i t) (from_at 1 below k n (pos 0) (omega arith) i t))
+      λ t. two (get_or-from (1 - odd) g (2 * k) (2 * k + (1 - odd)) 0 (omega arith) (omega arith) t) (get_or-from 1 above k n (pos 0) (omega arith) i t) (get_or-from 1 below k n (pos 0) (omega arith) i t))
 
 -- ---- from lists of colour differences with their ends repeated: what the mirrors give
 

@@ -1,6 +1,7 @@
 -- The colour differences of a row as a list, and what is filled in from such lists. Assumes nothing.
-use Rattle.std.specs.Prelude.{ℕ, ◌+◌, ◌-◌, ◌*◌, ◌/◌, min, cond, List, [], ◌∷◌, ℤ, pos, get_or}
+use Rattle.std.specs.Prelude.{ℕ, ◌+◌, ◌-◌, ◌*◌, ◌/◌, ◌≡◌, min, cond, List, [], ◌∷◌, ℤ, pos, length, get_or}
 use Rattle.lists.specs.Table.{table}
+use Rattle.lists.specs.Bound.{AllWithin}
 use Rattle.bayer.specs.Parity.{is_odd}
 use Rattle.half_rows.specs.HalfRow.{pixels}
 use Rattle.demosaic.specs.Fill.{sum_of, fill}
@@ -9,6 +10,11 @@ use Rattle.fill_rows.specs.FillRow.{colour_difference_at}
 -- how many places the list of a row w wide has, whether its red or blue pixels start at column 0 or at column 1
 abbrev pub places : (w : ℕ) → ℕ
 places w = (w + 1) / 2 + 2
+
+-- a list of colour differences of a row w wide, of the length and in the range that they have
+pub record Differences (w : ℕ) (e : List ℤ) : Type 0 where
+  pub long : length e ≡ places w
+  pub range : AllWithin 1048560 e
 
 -- the colour differences at those pixels, at the columns side, side + 2, .., from left to right: pixel k stands at place k + 1, and the first and the last stand once more, at the ends.
 -- Where the row has a pixel less on this side than on the other (an odd width, side 1), the last stands a third time.

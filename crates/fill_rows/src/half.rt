@@ -11,10 +11,8 @@ pub fn pairs(g: &[u16], a: &[i32], b: &[i32], out: &mut [u16])
     requires all_within { (AllWithin 1048560 a.now) × (AllWithin 1048560 b.now) }
     ensures { out.new ≡ table (pair_in g.now a.now b.now) (length out.old) }
 {
-    let mut k = 0;
-    while k < out.len() {
-        out[k] = whole::clamp(pair(g[2 * k], a[k], b[k]));
-        k += 1;
+    for (k, sample) in out.iter_mut().enumerate() {
+        *sample = whole::clamp(pair(g[2 * k], a[k], b[k]));
     }
 }
 
@@ -24,9 +22,7 @@ pub fn diagonals(g: &[u16], a: &[i32], b: &[i32], out: &mut [u16])
     requires all_within { (AllWithin 1048560 a.now) × (AllWithin 1048560 b.now) }
     ensures { out.new ≡ table (diagonal_in g.now a.now b.now) (length out.old) }
 {
-    let mut k = 0;
-    while k < out.len() {
-        out[k] = whole::clamp(diagonal(g[2 * k], a[k], a[k + 1], b[k], b[k + 1]));
-        k += 1;
+    for (k, sample) in out.iter_mut().enumerate() {
+        *sample = whole::clamp(diagonal(g[2 * k], a[k], a[k + 1], b[k], b[k + 1]));
     }
 }

@@ -3,4 +3,5 @@
 
 pub mod edge;
 pub mod half;
+pub mod row;
 pub mod rows;

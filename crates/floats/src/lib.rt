@@ -7,5 +7,5 @@ ghost use Rattle.floats.specs.Float.{float};
 pub fn one_if(b: bool) -> f64
     ensures { result ≡ float (cond b 1 0) }
 {
-    if b { 1.0 } else { 0.0 }
+    f64::from(b)
 }

@@ -1,10 +1,8 @@
 -- What the program prints of a malformed file, and of any other. Assumes nothing.
-use Prim.Native.Nat.{ℕ, ◌<◌}
+use Prim.Native.Nat.{ℕ}
 use mathlib.Core.Path.{◌≡◌, refl}
 use mathlib.Core.Bool.{true, false}
 use mathlib.Core.List.{List}
-use borrow.Author.Tests.{lt-ltb}
-use lib.ListN.{length}
 use Rattle.bayer.specs.Refusal.{first_of}
 use Rattle.plane_text.specs.Text.{refusal_line, printed}
 use Rattle.frame_text.specs.FrameText.{frame_text, whole_number}
@@ -14,10 +12,6 @@ use Rattle.frame_file.specs.FrameFile.{frame_of, readings, malformed, file_numbe
 pub torn-line : (bytes : List ℕ) → malformed bytes ≡ true → output bytes ≡ refusal_line 8
 unfolding output frame_text printed file_number first_of
 torn-line bytes e = rw e
-
-pub long-line : (bytes : List ℕ) → 8202 < length bytes → output bytes ≡ refusal_line 8
-unfolding malformed
-long-line bytes h = torn-line bytes (rw (lt-ltb 8202 (length bytes) h))
 
 pub frame-lines : (bytes : List ℕ) → malformed bytes ≡ false → output bytes ≡ frame_text (whole_number (frame_of bytes) (readings bytes)) (frame_of bytes) (readings bytes)
 unfolding output file_number first_of

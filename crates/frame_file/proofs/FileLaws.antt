@@ -1,6 +1,6 @@
 -- What holds of a file that is not malformed. Assumes nothing.
 use Prim.Native.Nat.{ℕ, ◌+◌, ◌*◌, ◌≤◌}
-use mathlib.Core.Path.{◌≡◌, ap}
+use mathlib.Core.Path.{◌≡◌, sym, ap, ◌∙◌}
 use mathlib.Core.Bool.{Bool, false, not, ◌||◌}
 use mathlib.Core.List.{List}
 use native.Mathlib.Omega.{arith}
@@ -9,7 +9,9 @@ use lib.Dec.{ltb, eqb}
 use lib.ListN.{length, drop, length-drop}
 use Rattle.whole.proofs.Tests.{neither}
 use Rattle.lists.specs.Table.{table}
+use Rattle.lists.proofs.TableLaws.{length-table}
 use Rattle.frame_bytes.specs.FrameBytes.{big_endian}
+use Rattle.bayer.specs.declared.frame.Frame.{Frame}
 use Rattle.frame_file.specs.FrameFile.{version, rest_length, frame_of, readings, malformed}
 
 -- where it is not malformed: its length, and that of its readings
@@ -28,6 +30,11 @@ sized bytes e =
     let s = eqb-true (rest_length bytes) (5 + 2 * (frame_of bytes).width * (frame_of bytes).height) (not-false fits d.1) in
     (omega (arith, length-drop 5 bytes), omega (arith, length-drop 5 bytes))
 
-pub readings-are : (bytes : List ℕ) {n : ℕ} → n ≡ (frame_of bytes).width * (frame_of bytes).height → table (λ k. big_endian bytes (10 + 2 * k) 2) n ≡ readings bytes
+pub frame_sized : (bytes : List ℕ) (f : Frame) → malformed bytes ≡ false → f ≡ frame_of bytes → (10 + 2 * (f.width * f.height) ≡ length bytes) × (f.width * f.height ≤ 4096)
+frame_sized bytes f e same = rw same (sized bytes e)
+
+-- where as many were read as the frame has
+pub readings-are : (bytes : List ℕ) (f : Frame) (m : ℕ) {read : List ℕ} → f ≡ frame_of bytes → read ≡ table (λ k. big_endian bytes (10 + 2 * k) 2) m → length read ≡ f.width * f.height → read ≡ readings bytes
 unfolding readings
-readings-are bytes e = ap (table _) e
+readings-are bytes f m same e n =
+    e ∙ ap (table _) (sym (length-table _ m) ∙ sym (ap length e) ∙ n ∙ ap (λ (g : Frame). g.width * g.height) same)

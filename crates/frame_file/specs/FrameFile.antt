@@ -4,7 +4,8 @@ use Rattle.lists.specs.Table.{table}
 use Rattle.frame_bytes.specs.FrameBytes.{big_endian, frame_at}
 use Rattle.bayer.specs.declared.frame.Frame.{Frame}
 use Rattle.bayer.specs.Condition.{frame_cases, range_cases}
-use Rattle.bayer.specs.Refusal.{◌when◌, malformed_file, first_of}
+use Rattle.bayer.specs.declared.refusal.Refusal.TheVariants.{MalformedFile}
+use Rattle.bayer.specs.Refusal.{◌when◌, first_of}
 use Rattle.frame_text.specs.FrameText.{frame_text}
 
 -- a version byte; a four-byte length of all that follows it; W and H, two bytes each; one layout byte; W × H readings, two bytes each
@@ -31,7 +32,7 @@ malformed bytes =
 
 -- the program's number: 8, then 1, 2, 6; 0 where none holds
 unfoldable pub file_number : (bytes : List ℕ) → ℕ
-file_number bytes = first_of ((malformed_file when malformed bytes) ∷ (frame_cases (frame_of bytes) ++ range_cases (readings bytes)))
+file_number bytes = first_of ((MalformedFile when malformed bytes) ∷ (frame_cases (frame_of bytes) ++ range_cases (readings bytes)))
 
 -- WHAT THE PROGRAM PRINTS, for any bytes
 unfoldable pub output : (bytes : List ℕ) → List ℕ

@@ -1,1 +1,2 @@
 pub mod FrameFile
+pub mod LongFile

@@ -1,53 +1,64 @@
 ghost use Rattle.std.specs.Prelude.{◌≡◌, false, List, ℕ, ◌*◌, ◌≤◌, length, take};
-ghost use Rattle.plane_text.specs.Written.{Written, Answered};
+ghost use Rattle.plane_text.specs.Written.{Answered};
 ghost use Rattle.frame_file.specs.FrameFile.{frame_of, malformed, output};
+ghost use Rattle.frame_file.specs.LongFile.{long_line};
 
 use crate::file::{is_malformed, read_readings};
 use bayer::frame::Frame;
-use bayer::refusal::MALFORMED_FILE;
-use frame_bytes::{first_bytes, frame_at};
-use frame_text::put_frame;
-use plane_text::text::put_refusal_line;
+use bayer::refusal::Refusal;
+use frame_bytes::frame_at;
+use frame_text::program::Program;
+use frame_text::{program, text_of_frame};
+use plane_text::text::Text;
 
-// For a file that is not malformed. The mosaic is room for the frame's readings.
-fn frame_answer(frame: Frame, bytes: &[u8], mosaic: &mut [u16], out: &mut [u8]) -> usize
-    requires { (malformed bytes.now ≡ false) × (frame ≡ frame_of bytes.now) × (length mosaic.old ≡ frame.width * frame.height) × (105 ≤ length out.old) }
-    ensures { Written (output bytes.now) 0 out.old out.new result × (result ≤ 105) }
+// The bytes of a file that the program reads: in a buffer of 8202 a file that is a byte too long would not show.
+pub const ROOM: usize = 8203;
+
+// For a file that is not malformed.
+#[tactic(auto, using(crate::proofs::FileLaws::frame_sized))]
+fn frame_answer(bytes: &[u8], frame: Frame) -> Text
+    requires well_formed { malformed bytes.now ≡ false }
+    requires described { frame ≡ frame_of bytes.now }
+    ensures { result ≡ output bytes.now }
 {
-    read_readings(bytes, mosaic);
-    put_frame(frame, mosaic, out)
+    let size = frame.width * frame.height;
+    // Fixed memory: nothing is on the heap.
+    let mut mosaic = [0u16; 4096];
+    let readings = &mut mosaic[..size];
+    read_readings(bytes, readings);
+    text_of_frame(frame, readings)
 }
 
-// The same, in as much of the room as the frame needs.
-fn file_answer(bytes: &[u8], mosaic: &mut [u16], out: &mut [u8]) -> usize
-    requires { (malformed bytes.now ≡ false) × (length mosaic.old ≡ 4096) × (105 ≤ length out.old) }
-    ensures { Written (output bytes.now) 0 out.old out.new result × (result ≤ 105) }
-{
-    let frame = frame_at(bytes, 5);
-    let size = frame.width * frame.height;
-    frame_answer(frame, bytes, &mut mosaic[0..size], out)
+// The program that reads a frame file.
+#[derive(Clone, Copy)]
+pub struct FrameFile;
+
+impl Program<ROOM> for FrameFile {
+    ghost output = { output };
+
+    ghost long_refused = { long_line };
+
+    fn text(bytes: &[u8]) -> Text {
+        if is_malformed(bytes) {
+            return Text::refusal(Refusal::MalformedFile.number());
+        }
+        frame_answer(bytes, frame_at(bytes, 5))
+    }
 }
 
 // Puts what the program prints for these bytes at the start of `out`, and answers how many bytes that is; 105 are always enough. A shorter `out` is left
 // alone, and the answer is 0.
+// README offers it: neither its parameters nor its clause, `Answered`, may change.
 pub fn answer(bytes: &[u8], out: &mut [u8]) -> usize
     ensures { Answered (output bytes.now) out.old out.new result }
 {
-    if out.len() < 105 {
-        return 0;
-    }
-    if is_malformed(bytes) {
-        return put_refusal_line(MALFORMED_FILE, out);
-    }
-    let mut mosaic = [0u16; 4096];
-    file_answer(bytes, &mut mosaic, out)
+    program::answer::<FrameFile, ROOM>(bytes, out)
 }
 
-// The same for a file of which n bytes were read into a buffer: as many as the buffer holds, or all of the file. The buffer's size is part of the type: in one
-// of 8202 bytes a file that is a byte too long would not show.
-pub fn answer_read(bytes: [u8; 8203], n: usize, out: &mut [u8]) -> usize
+// The same for a file of which n bytes were read into a buffer: as many as the buffer holds, or all of the file.
+pub fn answer_read(bytes: [u8; ROOM], n: usize, out: &mut [u8]) -> usize
     ensures by_index { (file : List ℕ) → take n bytes ≡ take (length bytes) file → Answered (output file) out.old out.new result }
     ensures upper_bound { result ≤ 105 }
 {
-    answer(first_bytes(&bytes, n), out)
+    program::answer_read::<FrameFile, ROOM>(bytes, n, out)
 }

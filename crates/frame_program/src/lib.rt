@@ -2,4 +2,5 @@
 #![tactic(auto)]
 
 pub mod file;
+pub mod program;
 pub mod test;

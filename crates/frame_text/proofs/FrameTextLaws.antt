@@ -1,6 +1,6 @@
 -- What a strip call on a whole frame answers is what is printed of the frame; and where its smoothing is 0, as the programs name it, the number is not 10. Assumes nothing.
-use Prim.Native.Nat.{ℕ, ◌*◌}
-use mathlib.Core.Path.{◌≡◌, sym, ◌∙◌}
+use Prim.Native.Nat.{ℕ, zero, suc, ◌*◌}
+use mathlib.Core.Path.{◌≡◌, refl, sym, ◌∙◌}
 use mathlib.Core.List.{List, ◌++◌}
 use lib.ListN.{length}
 use Rattle.bayer.specs.declared.colour.Colour.TheVariants.{Red, Green, Blue}
@@ -12,8 +12,8 @@ use Rattle.bayer.proofs.RefusalLaws.{skip}
 use Rattle.strip.specs.declared.entry.Entry.TheVariants.{FullSize}
 use Rattle.strip.specs.Strip.{asked, Promise}
 use Rattle.strip.proofs.WholeFrame.{whole-number, whole-plane}
-use Rattle.plane_text.specs.Text.{lines, refusal_line, printed}
-use Rattle.plane_text.proofs.LineLaws.{same_lines, refused-line}
+use Rattle.plane_text.specs.Text.{lines, printed}
+use Rattle.plane_text.proofs.LineLaws.{same_lines}
 use Rattle.frame_text.specs.FrameText.{frame_text, whole_number}
 
 pub number-evenly : (f : Frame) (readings : List ℕ) → f.smoothing ≡ 0 → whole_number f readings ≡ first_of (frame_cases f ++ range_cases readings)
@@ -26,10 +26,10 @@ module _ (f : Frame) (mosaic : List ℕ) (long : length mosaic ≡ f.width * f.h
   numbered : number ≡ whole_number f mosaic
   numbered = p.number ∙ whole-number f mosaic long (r ∙ long) (g ∙ long) (b ∙ long)
 
-  pub refused : (number ≡ 0 → ⊥) → frame_text (whole_number f mosaic) f mosaic ≡ refusal_line number
-  unfolding frame_text
-  refused h = rw (← numbered) (refused-line number _ h)
-
-  pub delivered : number ≡ 0 → frame_text (whole_number f mosaic) f mosaic ≡ lines after
+  printed_by : (n : ℕ) → n ≡ number → frame_text n f mosaic ≡ printed n (lines after)
   unfolding frame_text printed
-  delivered z = rw (← numbered, z) (sym (same_lines _ _ (whole-plane f mosaic p z Red) (whole-plane f mosaic p z Green) (whole-plane f mosaic p z Blue)))
+  printed_by zero z = sym (same_lines _ _ (whole-plane f mosaic p (sym z) Red) (whole-plane f mosaic p (sym z) Green) (whole-plane f mosaic p (sym z) Blue))
+  printed_by (suc n) z = refl
+
+  pub printed_whole : printed number (lines after) ≡ frame_text (whole_number f mosaic) f mosaic
+  printed_whole = rw (← numbered) (sym (printed_by number refl))

@@ -5,22 +5,19 @@ use native.Mathlib.Omega.{arith}
 use lib.Dec.{lit<}
 use lib.IntN.{ℤ, pos, nat_abs, ◌+ℤ◌, ◌-ℤ◌, ◌*ℤ◌}
 use mir.Syntax.{w32}
-use mir.Val.{SFits, to_z, of_z}
+use mir.Val.{to_z, of_z}
 use lib.Ieee.{binary64, of_int}
 use Rattle.whole.specs.Floor.{floor_div}
 use Rattle.whole.specs.Parts.{up, down}
 use Rattle.whole.proofs.Pairs.{anyₚ, natₚ, ◌+ₚ◌, ◌-ₚ◌, ◌*ₚ◌, eq-by, eq_of, abs-by}
 use Rattle.whole.proofs.Magnitudes.{up_le, down_le}
-use Rattle.whole.proofs.Signed.{int, nat, ◌⊕◌, asked, value}
+use Rattle.whole.proofs.Signed.{int, nat, ◌⊕◌, value}
 use Rattle.whole.proofs.FloorLaws.{floor-lift}
 use Rattle.floats.specs.Float.{val, WholeUpTo}
 use Rattle.floats.proofs.Casts.{of-i32}
 use Rattle.gbtf.specs.Fusion.{fusion}
 
 -- ---- a five-sum and k, as the code adds them
-pub lift-fits : (a : ℤ) (k : ℕ) → nat_abs a ≤ 3276700 → k ≤ 3276800 → SFits w32 (to_z w32 (of_z w32 a) +ℤ to_z w32 k)
-lift-fits a k h l = asked (int {w = w32} a 3276700 h ⊕ nat k 3276800 l) tt
-
 pub lifted-is : (a : ℤ) (k T : ℕ) → T ≤ 100 → nat_abs a ≤ 32767 * T → k ≡ 32768 * T
     → let x = of_int binary64 (to_z w32 (of_z w32 (to_z w32 (of_z w32 a) +ℤ to_z w32 k))) in WholeUpTo 6553500 x × (pos (val x) ≡ a +ℤ pos (32768 * T))
 lifted-is a k T t h e =

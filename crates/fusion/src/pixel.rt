@@ -12,26 +12,22 @@ use crate::share::share;
 use gbtf::direction::Direction;
 
 // The guarded sum, which is never 0.
+// Not `f64::max`: tried, its proof did not close (`floats` has laws of `lt`, and `max` is told by `le` and by NaNs).
 fn guarded_sum(d: Direction) -> f64
     requires { d.sum ≤ most_sum }
     ensures { (WholeUpTo most_sum result) × (val result ≡ guarded_sum d) }
 {
-    let t = d.sum as i32 as f64;
-    if t < 4.0 {
-        return 4.0;
-    }
-    t
+    let t = f64::from(d.sum as i32);
+    if t < 4.0 { 4.0 } else { t }
 }
 
+// Not `f64::min`, which asks besides whether one is a NaN: tried, the smallest of four took more than twice as long.
 #[tactic(auto, using(crate::proofs::SmallerLaws::smaller_first, crate::proofs::SmallerLaws::smaller_second))]
 fn smaller(a: f64, b: f64) -> f64
     requires { (WholeUpTo most_sum a) × (WholeUpTo most_sum b) }
     ensures { (WholeUpTo most_sum result) × (val result ≡ min (val a) (val b)) }
 {
-    if a < b {
-        return a;
-    }
-    b
+    if a < b { a } else { b }
 }
 
 // m: the smallest of the four guarded sums.
@@ -42,19 +38,12 @@ fn smallest(e: f64, w: f64, n: f64, s: f64) -> f64
     smaller(smaller(e, w), smaller(n, s))
 }
 
-// What makes every five-sum positive.
-fn lift(total: u32) -> u32
-    requires { total ≤ 100 }
-    ensures { result ≡ 32768 * total }
-{
-    32768 * total
-}
-
+// The five-sum, lifted by what makes every one positive.
 fn lifted_five_sum(total: u32, d: Direction) -> f64
     requires { (total ≤ 100) × (nat_abs d.five ≤ 32767 * total) }
     ensures { (WholeUpTo 6553500 result) × (pos (val result) ≡ d.five +ℤ pos (32768 * total)) }
 {
-    (d.five + lift(total) as i32) as f64
+    f64::from(d.five + (32768 * total) as i32)
 }
 
 // What fusion adds to 16c. Each five-sum lifted by 32768 totals lifts it by 131072.
@@ -81,7 +70,7 @@ pub fn fusion(
     let s = share(m, ts);
     let a = (e * lifted_five_sum(total, east) + w * lifted_five_sum(total, west))
         + (n * lifted_five_sum(total, north) + s * lifted_five_sum(total, south));
-    mean(a, total as i32 as f64 * ((e + w) + (n + s))) - 131072
+    mean(a, f64::from(total as i32) * ((e + w) + (n + s))) - 131072
 }
 
 // Green in units at a red or blue pixel of reading c, from what fusion adds.
@@ -89,5 +78,5 @@ pub fn green(c: u16, added: i32) -> u16
     requires { nat_abs added ≤ 131072 }
     ensures { result ≡ clamp (pos (16 * c) +ℤ added) }
 {
-    whole::clamp(16 * (c as i32) + added)
+    whole::clamp(16 * i32::from(c) + added)
 }

@@ -13,19 +13,13 @@ pub fn difference(c: u16, l: u16, r: u16, p: u16, q: u16) -> i16
     ensures result_value { neg_ℤ result ≡ difference true c l r p q }
 {
     // Equation 4, (R(i, j-1) + R(i, j+1)) / 2: the two neighbours.
-    let neighbours = 2 * (l as i32 + r as i32);
+    let neighbours = 2 * (i32::from(l) + i32::from(r));
     // Equation 4, (2 × G(i, j) - G(i, j-2) - G(i, j+2)) / 4: the second difference of the centre's colour.
-    let second_difference = 2 * (c as i32) - p as i32 - q as i32;
+    let second_difference = 2 * i32::from(c) - i32::from(p) - i32::from(q);
     // Equation 4: their sum, the estimate of the colour that the centre lacks.
     let estimate = neighbours + second_difference;
     // Equation 8: green minus colour, the estimate minus the centre.
-    (estimate - 4 * (c as i32)) as i16
-}
-
-fn magnitude(x: i16) -> u16
-    ensures { result ≡ nat_abs x }
-{
-    if x < 0 { (-1 - x) as u16 + 1 } else { x as u16 }
+    (estimate - 4 * i32::from(c)) as i16
 }
 
 // The plain gradient, from the differences before and after a position. Of readings these are no further apart than a difference can be from 0.
@@ -33,5 +27,5 @@ pub fn plain_gradient(before: i16, after: i16) -> u16
     requires { nat_abs (before -ℤ after) ≤ most_difference }
     ensures { result ≡ plain_gradient before after }
 {
-    magnitude(before - after)
+    (before - after).unsigned_abs()
 }

@@ -1,4 +1,4 @@
-ghost use Rattle.std.specs.Prelude.{◌≡◌, ◌≤◌, ◌<◌, pos, nat_abs, ◌*ℤ◌, get_or};
+ghost use Rattle.std.specs.Prelude.{◌≡◌, ◌+◌, ◌≤◌, pos, nat_abs, ◌*ℤ◌, get_or};
 ghost use Rattle.gbtf.specs.Direction.{direction_sum, alternating, five_sum};
 
 // What green takes from one direction: its five-sum and its direction sum.
@@ -8,28 +8,26 @@ pub struct Direction {
     pub sum: u32,
 }
 
-fn wide(x: u16) -> u32
-    ensures { (result ≡ x) × (result < 65536) }
+fn row_sum(row: [u16; 3]) -> u32
+    ensures value { result ≡ get_or row 0 0 + get_or row 1 0 + get_or row 2 0 }
+    ensures bound { result ≤ 196605 }
 {
-    x as u32
+    row.iter().map(|gradient| u32::from(*gradient)).sum()
 }
 
 // The sum of the nine gradients of a window, three rows of three.
 pub fn direction_sum(g: [[u16; 3]; 3]) -> u32
     ensures { result ≡ direction_sum g }
 {
-    wide(g[0][0])
-        + wide(g[0][1])
-        + wide(g[0][2])
-        + (wide(g[1][0]) + wide(g[1][1]) + wide(g[1][2]))
-        + (wide(g[2][0]) + wide(g[2][1]) + wide(g[2][2]))
+    let [above, across, below] = g;
+    row_sum(above) + row_sum(across) + row_sum(below)
 }
 
 // A difference by its weight.
 fn weighted(weight: u8, d: i16) -> i32
     ensures { (result ≡ pos weight *ℤ d) × (nat_abs result ≤ 8355840) }
 {
-    weight as i32 * d as i32
+    i32::from(weight) * i32::from(d)
 }
 
 // The five differences from the pixel outward, by their weights. The second and the fourth are at green centres, so their signs are turned.

@@ -15,14 +15,13 @@ pub fn weights_of(smoothing: u8) -> [u8; 5]
     }
 }
 
-fn wide(weight: u8) -> u32
-    ensures { (result ≡ weight) × (result < 256) }
-{
-    weight as u32
-}
-
+// Not `weights.iter().map(..).sum()`: tried, its proof did not close (that the sum fits, and what it is).
 pub fn total(weights: [u8; 5]) -> u32
     ensures { result ≡ total weights }
 {
-    wide(weights[0]) + wide(weights[1]) + wide(weights[2]) + wide(weights[3]) + wide(weights[4])
+    u32::from(weights[0])
+        + u32::from(weights[1])
+        + u32::from(weights[2])
+        + u32::from(weights[3])
+        + u32::from(weights[4])
 }

@@ -3,36 +3,38 @@ use Prim.Native.Nat.{ℕ, ◌+◌, ◌-◌, ◌*◌, ◌/◌, ◌%◌, ◌≤◌
 use mathlib.Core.Bool.{false}
 use mathlib.Core.List.{List, [], ◌∷◌, ◌++◌}
 use mathlib.Core.Path.{◌≡◌, refl, sym, ap, ap₂, ◌∙◌}
-use native.Mathlib.Nat.{le_of_eq, add-zero, zero-mul, one-mul, add-mul, mul-le-mul_right, add-sub_cancel_left}
+use native.Mathlib.Nat.{le_of_eq, add-zero, zero-mul, one-mul, add-mul, mul-le-mul_right}
 use native.Mathlib.Omega.{arith}
 use lib.Dec.{lit≤}
 use lib.IntN.{ℤ, pos, sub_ℕ}
-use lib.ListN.{length, get_or, take, drop, length-append}
+use lib.ListN.{length, get_or, take, drop}
+use lib.Seq.{drop-drop}
 use Rattle.lists.specs.Part.{row_of, part}
 use Rattle.lists.specs.Table.{table, joined}
 use Rattle.lists.specs.Bound.{AllAtMost, AllWithin}
 use Rattle.lists.proofs.TableLaws.{length-table, table_same, table-part}
 use Rattle.lists.proofs.JoinedLaws.{joined_same, joined-rows, length-joined, parts, get_or-parts, part-within}
-use Rattle.lists.proofs.PartLaws.{part_length, first_part, rest_part, other-part, get_or_part, part-part}
+use Rattle.lists.proofs.PartLaws.{first_part, rest_part, other-part, get_or_part}
 use Rattle.lists.proofs.BoundLaws.{all-part, all-parts}
 use Rattle.bayer.specs.declared.frame.Frame.{Frame}
 use Rattle.bayer.specs.Mirror.{mirror}
-use Rattle.bayer.specs.Mosaic.{continued}
 use Rattle.bayer.specs.Parity.{starts_green}
 use Rattle.bayer.specs.Lent.{Lent}
 use Rattle.bayer.proofs.LentLaws.{row_inside}
-use Rattle.bayer.proofs.ParityLaws.{starts-below, starts-next}
-use Rattle.gbtf.specs.Bounds.{most_difference, most_gradient, most_sum}
+use Rattle.bayer.proofs.ParityLaws.{starts-next}
+use Rattle.gbtf.specs.Bounds.{most_difference, most_sum}
 use Rattle.gbtf.specs.Difference.{difference, plain_gradient}
 use Rattle.gbtf.specs.Direction.{direction_sum}
-use Rattle.gbtf.specs.GreenAt.{green_at}
+use Rattle.gbtf.specs.Weights.{scale, weights_of}
+use Rattle.green_rule.specs.Greens.{greens, green_row}
+use Rattle.green_row.specs.Buffers.{InRange}
 use Rattle.green_row.specs.AlongAxis.{difference_in, plain_gradient_in, gradient_in, Apart}
 use Rattle.green_row.specs.Directions.{three_in, window_in}
 use Rattle.green_row.specs.GreenIn.{green_in}
 use Rattle.green_row.specs.Extended.{column, extended_row}
 use Rattle.green_row.proofs.BufferBounds.{extended-at-most, differences-within, differences-apart-in, gradients-at-most, window-at-most}
 use Rattle.green_row.proofs.GreenRow.{RowBuffers, row-fused}
-use Rattle.green_blocks.specs.Block.{column_sums, green_row_in}
+use Rattle.green_blocks.specs.Block.{AroundBlock, column_sums, fused_row_in}
 
 -- the same readings give the same difference, at place k of x and place j of y
 difference-same : (step : ℕ) (x y : List ℕ) (k j : ℕ) → ((e : ℕ) → e ≤ 4 → get_or x (k + e * step) 0 ≡ get_or y (j + e * step) 0) → difference_in step x k ≡ difference_in step y j
@@ -83,18 +85,28 @@ module _ (s m : ℕ) (x : List ℕ) (small : AllAtMost 4095 x) where
       )
       (rows_apart, columns-apart)
 
--- ---- a block of b rows from row v on, of which column 0 is green or not by o: the readings x, the differences d and the gradients g
-pub record BlockBuffers (f : Frame) (first : ℕ) (rows : List ℕ) (v b s o : ℕ) (x : List ℕ) (d : List ℤ) (g : List ℕ) : Type 0 where
+-- row v + i of a frame, among the readings from row v on
+pub own_row : (w first v i : ℕ) (rows : List ℕ) → first ≤ v → row_of w i (drop ((v - first) * w) rows) ≡ row_of w (v + i - first) rows
+unfolding row_of
+own_row w first v i rows h =
+    let a : v + i - first ≡ v - first + i = omega arith in
+    rw (a, add-mul) (ap (take w) (drop-drop (i * w) ((v - first) * w) rows))
+
+-- ---- a block of b rows from row v on: the readings x, the differences d and the gradients g
+pub record BlockBuffers (f : Frame) (first : ℕ) (rows : List ℕ) (v b s : ℕ) (x : List ℕ) (d : List ℤ) (g : List ℕ) : Type 0 where
   pub lent : (i : ℕ) → i < b → Lent f first (length rows) (v + i)
   pub some : 0 < b
   pub few : b ≤ 8
   pub wide : s ≡ f.width + 14
-  pub starts : o ≡ starts_green f.layout v
   pub x-is : x ≡ joined (extended_row f first rows v s) (b + 12)
   pub d-is : d ≡ row_differences s (b * s) x ++ column_differences s (b * s) x
   pub g-is : g ≡ table (gradient_in 1 (part 0 (b * s + 2 * s) d)) (b * s + 2 * s - 4) ++ table (gradient_in s (part (b * s + 2 * s) (b * s + 8 * s) d)) (b * s + 4 * s)
 
-module _ {f : Frame} {first : ℕ} {rows : List ℕ} {v b s o : ℕ} {x : List ℕ} {d : List ℤ} {g : List ℕ} (z : BlockBuffers f first rows v b s o x d g) where
+module _ {f : Frame} {first : ℕ} {rows : List ℕ} {v b s : ℕ} {x : List ℕ} {d : List ℤ} {g : List ℕ} (z : BlockBuffers f first rows v b s x d g) where
+  -- column 0 of its first row is green or not by o
+  abbrev o : ℕ
+  o = starts_green f.layout v
+
   abbrev m : ℕ
   m = b * s
 
@@ -130,9 +142,6 @@ module _ {f : Frame} {first : ℕ} {rows : List ℕ} {v b s o : ℕ} {x : List �
   two-gradients =
       z.g-is
       ∙ ap₂ (λ a c. table (gradient_in 1 a) (m + 2 * s - 4) ++ table (gradient_in s c) (m + 4 * s)) (first_part (m + 2 * s) (m + 2 * s) dh dv z.d-is (length-table _ _) refl) dv-whole
-
-  pub gradients-length : length g ≡ m + 2 * s - 4 + (m + 4 * s)
-  gradients-length = ap length two-gradients ∙ length-append gh gv ∙ ap₂ (λ (a c : ℕ). a + c) (length-table _ _) (length-table _ _)
 
   gh-part : take (m + 2 * s - 4 - 0) g ≡ gh
   gh-part = first_part (m + 2 * s - 4) (m + 2 * s - 4 - 0) gh gv two-gradients (length-table _ _) (omega arith)
@@ -201,7 +210,7 @@ module _ {f : Frame} {first : ℕ} {rows : List ℕ} {v b s o : ℕ} {x : List �
     buffers : RowBuffers f first rows (v + i) s o' x' (part (i * s) (3 * s) dh) (part (i * s) (9 * s) dv) (part (i * s) (3 * s - 4) gh) (part (i * s) (5 * s) gv) (part (i * h) (3 * h) tv)
     buffers = record {
       places = record { lent = z.lent i hi; wide = le_of_eq (sym z.wide) };
-      starts = ap (λ n. (n + i) % 2) z.starts ∙ sym (starts-next f.layout v i (z.lent i hi).frame.known);
+      starts = sym (starts-next f.layout v i (z.lent i hi).frame.known);
       x-is =
           ap (part (i * s) (13 * s)) z.x-is ∙ joined-rows (extended_row f first rows v s) s (λ r. length-table _ s) (b + 12) i 13 (omega arith)
           ∙ joined_same _ _ 13 (λ r _. (let a : v + (i + r) ≡ v + i + r = omega arith in ap (λ n. table (column (row_of f.width (mirror f.height (sub_ℕ n 6) - first) rows)) s) a));
@@ -225,33 +234,21 @@ module _ {f : Frame} {first : ℕ} {rows : List ℕ} {v b s o : ℕ} {x : List �
   at = (v - first) * f.width
 
   abbrev own : List ℕ
-  own = take (at + b * f.width - at) (drop at rows)
+  own = drop at rows
 
-  pub block_start : first ≤ v
-  block_start = rw add-zero at (row_inside (z.lent 0 z.some)).0
-
-  pub block-end : at + b * f.width ≤ length rows
-  block-end =
-      let a : v + (b - 1) - first ≡ v - first + (b - 1) = omega (arith, block_start, z.some) in
-      let c : b * f.width ≡ (b - 1) * f.width + f.width = (let e : b ≡ b - 1 + 1 = omega (arith, z.some) in ap (λ n. n * f.width) e ∙ rw (add-mul, one-mul)) in
-      omega (arith, c, rw (a, add-mul) at (row_inside (z.lent (b - 1) (omega (arith, z.some)))).1)
-
-  own_row : (i : ℕ) → i < b → row_of f.width i own ≡ row_of f.width (v + i - first) rows
-  unfolding row_of
-  own_row i h =
-      let a : v + i - first ≡ v - first + i = omega (arith, block_start) in
-      rw (add-sub_cancel_left at (b * f.width), a, add-mul) (part-part (i * f.width) f.width at (b * f.width) rows (part-within f.width h))
-
-  pub block-fused : {tv : List ℕ} → Columns tv → (K : ℕ) (ws : List ℕ) {out : List ℕ}
-      → out ≡ joined (green_row_in K ws f.width o own (take (m + 2 * s - 0) d) (take (length d - (m + 2 * s)) (drop (m + 2 * s) d)) (take (m + 2 * s - 4 - 0) g) tv) b
-      → out ≡ joined (λ i. table (λ j. green_at ws (continued f first rows) (pos (v + i)) (pos j) K) f.width) b
-  block-fused {tv} tv-is K ws e =
+  pub block-fused : {tv : List ℕ} → Columns tv → {out : List ℕ}
+      → out ≡ joined (fused_row_in f first rows v (take (m + 2 * s - 0) d) (take (length d - (m + 2 * s)) (drop (m + 2 * s) d)) (take (m + 2 * s - 4 - 0) g) tv) b
+      → out ≡ joined (λ i. green_row f first rows (v + i)) b
+  unfolding greens
+  block-fused {tv} tv-is e =
+      let K : ℕ = scale in
+      let ws : List ℕ = weights_of f.smoothing in
       e
       ∙ rw (dh-part, dv-part, gh-part)
-      (joined_same _ _ b (λ i k. ap (λ p. row_by p i (row_of f.width i own)) (sym z.wide) ∙ ap (row_by s i) (own_row i k) ∙ row-fused (buffers tv-is i k) K ws))
+      (joined_same _ _ b (λ i k. ap (λ p. row_by p i (row_of f.width i own)) (sym z.wide) ∙ ap (row_by s i) (own_row f.width first v i rows (rw add-zero at (row_inside (z.lent 0 z.some)).0)) ∙ row-fused (buffers tv-is i k) K ws))
     where
       row_by : (s i : ℕ) → List ℕ → List ℕ
-      row_by s i l = table (green_in K ws s ((o + i) % 2) l (part (i * s) (3 * s) dh) (part (i * s) (9 * s) dv) (part (i * s) (3 * s - 4) gh) (part (i * h) (3 * h) tv)) f.width
+      row_by s i l = table (green_in scale (weights_of f.smoothing) s ((o + i) % 2) l (part (i * s) (3 * s) dh) (part (i * s) (9 * s) dv) (part (i * s) (3 * s - 4) gh) (part (i * h) (3 * h) tv)) f.width
 
   -- ---- what `fuse_rows` requires
   module _ (small : AllAtMost 4095 rows) where
@@ -267,25 +264,20 @@ module _ {f : Frame} {first : ℕ} {rows : List ℕ} {v b s o : ℕ} {x : List �
     tv-small : {tv : List ℕ} → Columns tv → AllAtMost most_sum tv
     tv-small e = rw (columns e) (all-parts (λ t. t ≤ most_sum) 0 (omega arith) rule h (b + 2) (λ i k _ _. window-at-most gv s (i * s + 6 + (o + i) % 2 + 2 * k) (gradients-at-most s dv (m + 4 * s) (columns-apart s m x x-small))))
 
-    pub ready : {tv : List ℕ} (out : List ℕ) {R : Type 0} → Columns tv → length out ≡ b * f.width → R
-        → ((o < 2) × (AllAtMost 4095 own) × (length own ≡ b * f.width) × (length out ≡ b * f.width) × (0 < f.width) × (f.width ≤ 4096) × (b ≤ 8))
-        × (((length (take (m + 2 * s - 0) d) ≡ m + 2 * s) × (length (take (length d - (m + 2 * s)) (drop (m + 2 * s) d)) ≡ m + 8 * s) × (length (take (m + 2 * s - 4 - 0) g) ≡ m + 2 * s - 4) × (length tv ≡ (b + 2) * h))
-        × (((AllWithin most_difference (take (m + 2 * s - 0) d)) × (AllWithin most_difference (take (length d - (m + 2 * s)) (drop (m + 2 * s) d))) × (AllAtMost most_gradient (take (m + 2 * s - 4 - 0) g)) × (AllAtMost most_sum tv)) × R))
-    ready out e l r = (
-      (
-        omega (arith, z.starts, starts-below f.layout v),
-        part_small at (at + b * f.width - at) rows small,
-        part_length at (b * f.width) rows block-end,
-        l,
-        omega (arith, (z.lent 0 z.some).frame.wide),
-        (z.lent 0 z.some).frame.narrow,
-        z.few,
-      ),
-      (
-        (ap length dh-part ∙ length-table _ _, ap length dv-part ∙ length-table _ _, ap length gh-part ∙ length-table _ _, ap length (columns e) ∙ length-joined (parts rule h) h (λ k. length-table _ h) (b + 2)),
-        (
-          (rw dh-part dh-within, rw dv-part dv-within, rw gh-part (gradients-at-most 1 dh (m + 2 * s - 4) (rows_apart s m x x-small)), tv-small e),
-          r,
-        ),
-      ),
-    )
+    pub in-range : {tv : List ℕ} → Columns tv → InRange (take (m + 2 * s - 0) d) (take (length d - (m + 2 * s)) (drop (m + 2 * s) d)) (take (m + 2 * s - 4 - 0) g) tv
+    in-range e = record {
+      dh-within = rw dh-part dh-within;
+      dv-within = rw dv-part dv-within;
+      gh-within = rw gh-part (gradients-at-most 1 dh (m + 2 * s - 4) (rows_apart s m x x-small));
+      tv-within = tv-small e;
+    }
+
+  pub lengths : {tv : List ℕ} → Columns tv
+      → AroundBlock f.width b s (length (take (m + 2 * s - 0) d)) (length (take (length d - (m + 2 * s)) (drop (m + 2 * s) d))) (length (take (m + 2 * s - 4 - 0) g)) (length tv)
+  lengths e = record {
+    stride = z.wide;
+    dh-long = ap length dh-part ∙ length-table _ _;
+    dv-long = ap length dv-part ∙ length-table _ _;
+    gh-long = ap length gh-part ∙ length-table _ _;
+    tv-long = ap length (columns e) ∙ length-joined (parts rule h) h (λ k. length-table _ h) (b + 2);
+  }

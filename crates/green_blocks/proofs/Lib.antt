@@ -1,3 +1,1 @@
-pub mod BlockLent
 pub mod GreenBlock
-pub mod RoomLaws

@@ -1,8 +1,11 @@
 -- Green of the rows of a block, from buffers that they share. Assumes nothing.
-use Rattle.std.specs.Prelude.{ℕ, ◌+◌, ◌-◌, ◌*◌, ◌/◌, ◌%◌, List, ℤ}
+use Rattle.std.specs.Prelude.{ℕ, ◌+◌, ◌-◌, ◌*◌, ◌/◌, ◌%◌, ◌≡◌, List, drop, ℤ}
 use Rattle.lists.specs.Part.{row_of, part}
 use Rattle.lists.specs.Table.{table}
+use Rattle.bayer.specs.declared.frame.Frame.{Frame}
+use Rattle.bayer.specs.Parity.{starts_green}
 use Rattle.gbtf.specs.Direction.{direction_sum}
+use Rattle.gbtf.specs.Weights.{scale, weights_of}
 use Rattle.green_row.specs.Directions.{window_in}
 use Rattle.green_row.specs.GreenIn.{green_in}
 
@@ -41,3 +44,22 @@ green_row_in K ws w odd own dh dv gh tv i =
     let s = w + 14 in
     let h = (w + 1) / 2 in
     table (green_in K ws s ((odd + i) % 2) (row_of w i own) (part (i * s) (3 * s) dh) (part (i * s) (9 * s) dv) (part (i * s) (3 * s - 4) gh) (part (i * h) (3 * h) tv)) w
+
+-- where that is a block of a frame's rows from row v on, of which `rows` holds the frame's from row `first` on
+abbrev pub fused_row_in : Frame → (first : ℕ) (rows : List ℕ) (v : ℕ) (dh dv : List ℤ) (gh tv : List ℕ) (i : ℕ) → List ℕ
+fused_row_in f first rows v dh dv gh tv i = green_row_in scale (weights_of f.smoothing) f.width (starts_green f.layout v) (drop ((v - first) * f.width) rows) dh dv gh tv i
+
+-- the lengths of the buffers x, d, g and tv of b rows of w columns
+pub record BlockLong (w b x d g tv : ℕ) : Type 0 where
+  pub x-long : x ≡ b * (w + 14) + 12 * (w + 14)
+  pub d-long : d ≡ b * (w + 14) + 2 * (w + 14) + (b * (w + 14) + 8 * (w + 14))
+  pub g-long : g ≡ b * (w + 14) + 2 * (w + 14) - 4 + (b * (w + 14) + 4 * (w + 14))
+  pub tv-long : tv ≡ (b + 2) * ((w + 1) / 2)
+
+-- and of dh, dv, gh and tv, where rows of the first three are s places wide
+pub record AroundBlock (w b s dh dv gh tv : ℕ) : Type 0 where
+  pub stride : s ≡ w + 14
+  pub dh-long : dh ≡ b * s + 2 * s
+  pub dv-long : dv ≡ b * s + 8 * s
+  pub gh-long : gh ≡ b * s + 2 * s - 4
+  pub tv-long : tv ≡ (b + 2) * ((w + 1) / 2)

@@ -3,19 +3,17 @@
 ghost use Rattle.std.specs.Prelude.{◌≡◌, ◌++◌, ℕ, ◌+◌, ◌*◌, ◌-◌, ◌/◌, ◌≤◌, ◌<◌, length};
 ghost use Rattle.lists.specs.Table.{table, joined};
 ghost use Rattle.lists.specs.Part.{part};
-ghost use Rattle.lists.specs.Bound.{AllAtMost, AllWithin};
-ghost use Rattle.bayer.specs.Lent.{Lent};
-ghost use Rattle.gbtf.specs.Bounds.{most_difference, most_gradient, most_sum};
-ghost use Rattle.gbtf.specs.Weights.{scale, weights_of};
+ghost use Rattle.lists.specs.Bound.{AllAtMost};
 ghost use Rattle.green_rule.specs.Greens.{green_row};
 ghost use Rattle.green_row.specs.AlongAxis.{difference_in, gradient_in, Apart};
-ghost use Rattle.green_blocks.specs.Block.{column_sums, green_row_in};
+ghost use Rattle.green_blocks.specs.Block.{AroundBlock, BlockLong, column_sums, fused_row_in};
 
 use crate::fetch::fetch;
-use bayer::frame::Frame;
+use crate::rows::Block;
 use bayer::parity::starts_green;
 use green_row::along::{differences, gradients};
 use green_row::fuse::fuse_in;
+use green_row::room::{Buffers, RowRoom};
 use green_row::sums::sums;
 
 // The differences along the b + 2 rows in the middle of the readings, and then along the columns of the b + 8 in the middle.
@@ -48,134 +46,102 @@ fn column_sums(gv: &[u16], w: usize, b: usize, s: usize, odd: usize, tv: &mut [u
     ensures { tv.new ≡ joined (column_sums w s odd gv.now) (b + 2) }
 {
     let h = (w + 1) / 2;
-    let rows = b + 2;
-    let mut i = 0;
-    while i < rows {
+    for i in 0..b + 2 {
         let at = i * h;
         let end = at + h;
         let first = i * s + 6 + (odd + i) % 2;
         sums(gv, s, first, &mut tv[at..end]);
-        i += 1;
     }
 }
 
-// Green of b rows of readings x, by the frame description's smoothing, from the differences, gradients and direction sums of a block. t, f, r, p and q are room for a row's sums and half rows.
-fn fuse_rows(
-    smoothing: u8,
-    x: &[u16],
-    w: usize,
-    b: usize,
-    odd: usize,
-    dh: &[i16],
-    dv: &[i16],
-    gh: &[u16],
-    tv: &[u32],
-    t: &mut [u32],
-    f: &mut [i32],
-    r: &mut [i32],
-    p: &mut [u16],
-    q: &mut [u16],
-    out: &mut [u16],
-)
-    requires odd_bound { (odd < 2) × (AllAtMost 4095 x.now) × (length x.now ≡ b * w) × (length out.old ≡ b * w) × (0 < w) × (w ≤ 4096) × (b ≤ 8) }
-    requires dh_len { (length dh.now ≡ b * (w + 14) + 2 * (w + 14)) × (length dv.now ≡ b * (w + 14) + 8 * (w + 14)) × (length gh.now ≡ b * (w + 14) + 2 * (w + 14) - 4) × (length tv.now ≡ (b + 2) * ((w + 1) / 2)) }
-    requires all_within { (AllWithin most_difference dh.now) × (AllWithin most_difference dv.now) × (AllAtMost most_gradient gh.now) × (AllAtMost most_sum tv.now) }
-    requires w_in_bounds { ((w + 1) / 2 + 1 ≤ length t.old) × (4 * ((w + 1) / 2) ≤ length f.old) × ((w + 1) / 2 ≤ length r.old) × ((w + 1) / 2 ≤ length p.old) × ((w + 1) / 2 ≤ length q.old) }
-    ensures { out.new ≡ joined (green_row_in scale (weights_of smoothing) w odd x.now dh.now dv.now gh.now tv.now) b }
+// What row i of a block is handed of the block's buffers, whose direction sums are in rows of h.
+fn around_row<'a>(buffers: &Buffers<'a>, h: usize, i: usize) -> Buffers<'a>
+    requires i_bound { i < 8 }
+    requires stride_bound { (4 ≤ buffers.now.stride) × (buffers.now.stride ≤ 4110) × (h ≤ 4110) }
+    requires dh_end { i * buffers.now.stride + 3 * buffers.now.stride ≤ length buffers.now.dh.now }
+    requires dv_end { i * buffers.now.stride + 9 * buffers.now.stride ≤ length buffers.now.dv.now }
+    requires gh_end { i * buffers.now.stride + (3 * buffers.now.stride - 4) ≤ length buffers.now.gh.now }
+    requires tv_end { i * h + 3 * h ≤ length buffers.now.tv.now }
+    ensures stride { result.stride ≡ buffers.now.stride }
+    ensures dh { result.dh.now ≡ part (i * buffers.now.stride) (3 * buffers.now.stride) buffers.now.dh.now }
+    ensures dv { result.dv.now ≡ part (i * buffers.now.stride) (9 * buffers.now.stride) buffers.now.dv.now }
+    ensures gh { result.gh.now ≡ part (i * buffers.now.stride) (3 * buffers.now.stride - 4) buffers.now.gh.now }
+    ensures tv { result.tv.now ≡ part (i * h) (3 * h) buffers.now.tv.now }
 {
-    let s = w + 14;
+    let s = buffers.stride;
+    let at = i * s;
+    let dh_end = at + 3 * s;
+    let dv_end = at + 9 * s;
+    let gh_end = at + (3 * s - 4);
+    let tv_at = i * h;
+    let tv_end = tv_at + 3 * h;
+    Buffers {
+        stride: s,
+        dh: &buffers.dh[at..dh_end],
+        dv: &buffers.dv[at..dv_end],
+        gh: &buffers.gh[at..gh_end],
+        tv: &buffers.tv[tv_at..tv_end],
+    }
+}
+
+// Green of a block's rows, from their buffers.
+fn fuse_rows(block: &Block<'_>, buffers: &Buffers<'_>, room: &mut RowRoom<'_>, out: &mut [u16])
+    requires range { AllAtMost 4095 block.now.piece.readings.now }
+    requires around { AroundBlock block.now.piece.frame.width block.now.rows buffers.now.stride (length buffers.now.dh.now) (length buffers.now.dv.now) (length buffers.now.gh.now) (length buffers.now.tv.now) }
+    requires room_for_frame { block.now.piece.frame.width ≤ room.old }
+    requires out_len { length out.old ≡ block.now.rows * block.now.piece.frame.width }
+    ensures value { out.new ≡ joined (fused_row_in block.now.piece.frame block.now.piece.start block.now.piece.readings.now block.now.first buffers.now.dh.now buffers.now.dv.now buffers.now.gh.now buffers.now.tv.now) block.now.rows }
+    ensures same_room { room.new ≡ room.old }
+{
+    let frame = block.piece.frame;
+    let w = frame.width;
     let h = (w + 1) / 2;
-    let mut i = 0;
-    while i < b {
+    let odd = starts_green(frame.layout, block.first);
+    for i in 0..block.rows {
         let side = (odd + i) % 2;
+        let x = block.piece.row(block.first + i);
+        let around = around_row(buffers, h, i);
         let at = i * w;
         let end = at + w;
-        let o = i * s;
-        let dh_end = o + 3 * s;
-        let dv_end = o + 9 * s;
-        let gh_end = o + (3 * s - 4);
-        let tv_at = i * h;
-        let tv_end = tv_at + 3 * h;
-        fuse_in(
-            smoothing,
-            &x[at..end],
-            s,
-            side,
-            &dh[o..dh_end],
-            &dv[o..dv_end],
-            &gh[o..gh_end],
-            &tv[tv_at..tv_end],
-            t,
-            f,
-            r,
-            p,
-            q,
-            &mut out[at..end],
-        );
-        i += 1;
+        fuse_in(frame.smoothing, x, side, &around, room, &mut out[at..end]);
     }
 }
 
-// Green of rows v to v + b - 1.
-// x, d, g and tv are room for the block's readings, differences, gradients and direction sums along the columns, the others for a row's sums and half rows;
-// what they held before does not matter, and what they hold afterwards is not promised.
+// Green of a block's rows. x, d, g and tv are room for their readings, differences, gradients and direction sums along the columns.
+// Seven parameters, apart from `green_block_in`, which cuts them from its room: two parts of one lent struct go into one call only as slices.
 pub fn green_block(
-    frame: Frame,
-    start: usize,
-    piece: &[u16],
-    v: usize,
-    b: usize,
+    block: &Block<'_>,
     x: &mut [u16],
     d: &mut [i16],
     g: &mut [u16],
     tv: &mut [u32],
-    t: &mut [u32],
-    f: &mut [i32],
-    r: &mut [i32],
-    p: &mut [u16],
-    q: &mut [u16],
+    room: &mut RowRoom<'_>,
     out: &mut [u16],
 )
-    requires by_index { ((i : ℕ) → i < b → Lent frame start (length piece.now) (v + i)) × (0 < b) × (b ≤ 8) × (AllAtMost 4095 piece.now) }
-    requires x_len { (length x.old ≡ b * (frame.width + 14) + 12 * (frame.width + 14))
-        × (length d.old ≡ b * (frame.width + 14) + 2 * (frame.width + 14) + (b * (frame.width + 14) + 8 * (frame.width + 14)))
-        × (length g.old ≡ b * (frame.width + 14) + 2 * (frame.width + 14) - 4 + (b * (frame.width + 14) + 4 * (frame.width + 14)))
-        × (length tv.old ≡ (b + 2) * ((frame.width + 1) / 2)) }
-    requires width_in_bounds { ((frame.width + 1) / 2 + 1 ≤ length t.old)
-        × (4 * ((frame.width + 1) / 2) ≤ length f.old)
-        × ((frame.width + 1) / 2 ≤ length r.old)
-        × ((frame.width + 1) / 2 ≤ length p.old)
-        × ((frame.width + 1) / 2 ≤ length q.old)
-        × (length out.old ≡ b * frame.width) }
-    ensures { out.new ≡ joined (λ i. green_row frame start piece.now (v + i)) b }
+    requires range { AllAtMost 4095 block.now.piece.readings.now }
+    requires long { BlockLong block.now.piece.frame.width block.now.rows (length x.old) (length d.old) (length g.old) (length tv.old) }
+    requires room_for_frame { block.now.piece.frame.width ≤ room.old }
+    requires out_len { length out.old ≡ block.now.rows * block.now.piece.frame.width }
+    ensures value { out.new ≡ joined (λ i. green_row block.now.piece.frame block.now.piece.start block.now.piece.readings.now (block.now.first + i)) block.now.rows }
+    ensures same_room { room.new ≡ room.old }
 {
-    let w = frame.width;
+    let w = block.piece.frame.width;
+    let b = block.rows;
     let s = w + 14;
-    let odd = starts_green(frame.layout, v);
     let m = b * s;
     let dh_len = m + 2 * s;
     let gh_len = dh_len - 4;
-    fetch(frame, start, piece, v, b, s, x);
+    let odd = starts_green(block.piece.frame.layout, block.first);
+    fetch(block, s, x);
     all_differences(x, s, m, d);
     all_gradients(d, s, m, g);
     column_sums(&g[gh_len..], w, b, s, odd, tv);
-    let at = (v - start) * w;
-    let end = at + b * w;
-    fuse_rows(
-        frame.smoothing,
-        &piece[at..end],
-        w,
-        b,
-        odd,
-        &d[0..dh_len],
-        &d[dh_len..],
-        &g[0..gh_len],
+    let buffers = Buffers {
+        stride: s,
+        dh: &d[0..dh_len],
+        dv: &d[dh_len..],
+        gh: &g[0..gh_len],
         tv,
-        t,
-        f,
-        r,
-        p,
-        q,
-        out,
-    );
+    };
+    fuse_rows(block, &buffers, room, out);
 }

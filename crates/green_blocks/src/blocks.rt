@@ -3,112 +3,66 @@ ghost use Rattle.lists.specs.Table.{joined};
 ghost use Rattle.lists.specs.Bound.{AllAtMost};
 ghost use Rattle.bayer.specs.Lent.{Lent};
 ghost use Rattle.green_rule.specs.Greens.{green_row};
-ghost use Rattle.green_blocks.specs.Room.{Room};
 
 use crate::block::green_block;
-use bayer::frame::Frame;
+use crate::room::Room;
+use crate::rows::Block;
+use bayer::lent::Piece;
 
 // The rows of a block: more would make the buffers larger and save little.
 pub fn block_size(n: usize) -> usize
     ensures { result ≡ min n 8 }
 {
-    if n < 8 { n } else { 8 }
+    n.min(8)
 }
 
-// Green of rows v to v + b - 1, in as much of the room as b rows need.
-fn green_block_in(
-    frame: Frame,
-    start: usize,
-    piece: &[u16],
-    v: usize,
-    b: usize,
-    x: &mut [u16],
-    d: &mut [i16],
-    g: &mut [u16],
-    tv: &mut [u32],
-    t: &mut [u32],
-    f: &mut [i32],
-    r: &mut [i32],
-    p: &mut [u16],
-    q: &mut [u16],
-    out: &mut [u16],
-)
-    requires by_index { ((i : ℕ) → i < b → Lent frame start (length piece.now) (v + i)) × (0 < b) × (b ≤ 8) × (AllAtMost 4095 piece.now) }
-    requires room { (Room frame.width (length x.old) (length d.old) (length g.old) (length tv.old) (length t.old) (length f.old) (length r.old) (length p.old) (length q.old)) × (length out.old ≡ b * frame.width) }
-    ensures { out.new ≡ joined (λ i. green_row frame start piece.now (v + i)) b }
+// Green of a block's rows, in as much of the room as they need.
+fn green_block_in(block: &Block<'_>, room: &mut Room<'_>, out: &mut [u16])
+    requires range { AllAtMost 4095 block.now.piece.readings.now }
+    requires room_for_frame { block.now.piece.frame.width ≤ room.old }
+    requires out_len { length out.old ≡ block.now.rows * block.now.piece.frame.width }
+    ensures value { out.new ≡ joined (λ i. green_row block.now.piece.frame block.now.piece.start block.now.piece.readings.now (block.now.first + i)) block.now.rows }
+    ensures same_room { room.new ≡ room.old }
 {
-    let s = frame.width + 14;
-    let h = (frame.width + 1) / 2;
-    let m = b * s;
+    let s = block.piece.frame.width + 14;
+    let h = (block.piece.frame.width + 1) / 2;
+    let m = block.rows * s;
     let xs = m + 12 * s;
     let ds = 2 * m + 10 * s;
     let gs = 2 * m + 6 * s - 4;
-    let ts = b * h + 2 * h;
+    let ts = (block.rows + 2) * h;
     green_block(
-        frame,
-        start,
-        piece,
-        v,
-        b,
-        &mut x[0..xs],
-        &mut d[0..ds],
-        &mut g[0..gs],
-        &mut tv[0..ts],
-        t,
-        f,
-        r,
-        p,
-        q,
+        block,
+        &mut room.readings[0..xs],
+        &mut room.differences[0..ds],
+        &mut room.gradients[0..gs],
+        &mut room.column_sums[0..ts],
+        &mut room.row,
         out,
     );
 }
 
-// Green of rows a to a + n - 1, block after block, in room for the readings, differences, gradients and direction sums of a block and for a row's sums and half rows.
-pub fn green_rows(
-    frame: Frame,
-    start: usize,
-    piece: &[u16],
-    a: usize,
-    n: usize,
-    x: &mut [u16],
-    d: &mut [i16],
-    g: &mut [u16],
-    tv: &mut [u32],
-    t: &mut [u32],
-    f: &mut [i32],
-    r: &mut [i32],
-    p: &mut [u16],
-    q: &mut [u16],
-    out: &mut [u16],
-)
-    requires by_index { ((i : ℕ) → i < n → Lent frame start (length piece.now) (a + i)) × (AllAtMost 4095 piece.now) }
-    requires n_bound { (n ≤ 4096) × (a ≤ 4096) × (frame.width ≤ 4096) }
-    requires room { (Room frame.width (length x.old) (length d.old) (length g.old) (length tv.old) (length t.old) (length f.old) (length r.old) (length p.old) (length q.old)) × (length out.old ≡ n * frame.width) }
-    ensures { out.new ≡ joined (λ i. green_row frame start piece.now (a + i)) n }
+// Green of rows a to a + n - 1, block after block.
+pub fn green_rows(piece: &Piece<'_>, a: usize, n: usize, room: &mut Room<'_>, out: &mut [u16])
+    requires by_index { (i : ℕ) → i < n → Lent piece.now.frame piece.now.start (length piece.now.readings.now) (a + i) }
+    requires at_most { AllAtMost 4095 piece.now.readings.now }
+    requires n_bound { (n ≤ 4096) × (a ≤ 4096) × (piece.now.frame.width ≤ 4096) }
+    requires room_for_frame { piece.now.frame.width ≤ room.old }
+    requires out_len { length out.old ≡ n * piece.now.frame.width }
+    ensures value { out.new ≡ joined (λ i. green_row piece.now.frame piece.now.start piece.now.readings.now (a + i)) n }
+    ensures same_room { room.new ≡ room.old }
 {
-    let w = frame.width;
-    let mut i = 0;
-    while i < n {
+    let w = piece.frame.width;
+    for k in 0..n.div_ceil(8) {
+        let i = 8 * k;
         let b = block_size(n - i);
         let at = i * w;
         let end = at + b * w;
-        green_block_in(
-            frame,
-            start,
-            piece,
-            a + i,
-            b,
-            x,
-            d,
-            g,
-            tv,
-            t,
-            f,
-            r,
-            p,
-            q,
-            &mut out[at..end],
-        );
-        i += b;
+        let block = Block {
+            piece: *piece,
+            first: a + i,
+            rows: b,
+        };
+        green_block_in(&block, room, &mut out[at..end]);
     }
 }

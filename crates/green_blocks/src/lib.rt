@@ -4,3 +4,5 @@
 pub mod block;
 pub mod blocks;
 pub mod fetch;
+pub mod room;
+pub mod rows;

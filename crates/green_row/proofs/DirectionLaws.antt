@@ -12,7 +12,7 @@ use Rattle.whole.proofs.Pairs.{anyₚ, ◌+ₚ◌, eq-by}
 use Rattle.lists.specs.Table.{table, joined}
 use Rattle.lists.specs.Bound.{AllAtMost, AllWithin}
 use Rattle.lists.proofs.TableLaws.{length-table, table_same, table-all, get_or-table}
-use Rattle.lists.proofs.JoinedLaws.{length-joined, parts, get_or-parts}
+use Rattle.lists.proofs.JoinedLaws.{parts, get_or-parts}
 use Rattle.lists.proofs.BoundLaws.{all-parts}
 use Rattle.bayer.specs.Parity.{is_odd}
 use Rattle.bayer.proofs.ParityLaws.{odd-by}
@@ -28,6 +28,7 @@ use Rattle.gbtf.proofs.PixelBounds.{five-sum-within}
 use Rattle.gbtf.proofs.Signs.{abs-turned}
 use Rattle.gbtf.proofs.GreenLocal.{five-sum-same}
 use Rattle.green_row.specs.Directions.{window_in, after, before, reversed, five_in, direction_in, direction_from}
+use Rattle.green_row.specs.Buffers.{InRange}
 use Rattle.green_row.specs.GreenIn.{fused_by, green_by, green_in}
 use Rattle.green_row.proofs.BufferBounds.{window-at-most}
 
@@ -80,11 +81,11 @@ module _ (ws : List ℕ) (s odd n : ℕ) (dh dv : List ℤ) (gh : List ℕ) wher
       within (suc (suc (suc k))) j = five-sum-within ws (alternating (after s dv (4 * s + (j + 7)))) (λ i. sign dv b i _)
 
   -- as lists and totals that are these
-  pub sums-fit : {t : List ℕ} → t ≡ sums → AllAtMost most_gradient gh → (length t ≡ n + 1) × (AllAtMost most_sum t)
-  sums-fit e a = rw e (length-table _ (n + 1), sums-at-most a)
+  pub sums-fit : {t : List ℕ} → t ≡ sums → AllAtMost most_gradient gh → AllAtMost most_sum t
+  sums-fit e a = rw e (sums-at-most a)
 
-  pub fives-fit : {T : ℕ} {f : List ℤ} → T ≡ total ws → f ≡ fives → AllWithin most_difference dh → AllWithin most_difference dv → (length f ≡ 4 * n) × (AllWithin (32767 * T) f)
-  fives-fit p e a b = rw (p, e) (length-joined (parts five_at n) n (λ k. length-table _ n) 4, fives-within a b)
+  pub fives-fit : {T : ℕ} {f : List ℤ} → T ≡ total ws → f ≡ fives → AllWithin most_difference dh → AllWithin most_difference dv → AllWithin (32767 * T) f
+  fives-fit p e a b = rw (p, e) (fives-within a b)
 
   module _ (bit : odd < 2) (h : ℕ) (tv : List ℕ) where
     -- pixel i is at column 2 i + odd
@@ -100,46 +101,43 @@ module _ (ws : List ℕ) (s odd n : ℕ) (dh dv : List ℤ) (gh : List ℕ) wher
     direction-at i (suc (suc zero)) l = ap₂ direction (get_or-parts five_at n 4 2 i (pos 0) (lit≤ tt) l) (let e : i ≡ (2 * i + odd) / 2 = omega arith in ap (λ p. get_or tv p 0) e)
     direction-at i (suc (suc (suc k))) l = ap₂ direction (get_or-parts five_at n 4 3 i (pos 0) (lit≤ tt) l) (let e : i ≡ (2 * i + odd) / 2 = omega arith in ap (λ p. get_or tv (2 * h + p) 0) e)
 
-    abbrev added : ℕ → List ℤ
-    added K = table (λ i. fused_by K (total ws) (direction_from n h sums tv fives i)) n
+    -- what fusion adds at each of them, for the rules' own share scale, and that from the lists and the total that are these
+    abbrev pub added : List ℤ
+    added = table (λ i. fused_by scale (total ws) (direction_in ws s h dh dv gh tv (2 * i + odd))) n
 
-    -- for the rules' own share scale
-    added-within : 0 < total ws → AllWithin most_difference dh → AllWithin most_difference dv → AllAtMost most_gradient gh → AllAtMost most_sum tv → AllWithin 131072 (added scale)
-    unfolding fused_by
-    added-within above a b c d =
-        table-all (λ z. nat_abs z ≤ 131072) _ n (omega arith)
-        (λ i _. fused-within (total ws) _ _ _ _ above (fits i (s-small (i + 1))) (fits (n + i) (s-small i)) (fits (2 * n + i) (d i)) (fits (3 * n + i) (d (2 * h + i))))
-      where
-        s-small : AllAtMost most_sum sums
-        s-small = sums-at-most c
+    module _ {T : ℕ} {t : List ℕ} {f r : List ℤ} (p : T ≡ total ws) (q : t ≡ sums) (d : f ≡ fives) (a : r ≡ table (λ i. fused_by scale T (direction_from n h t tv f i)) n) where
+      pub added-is : r ≡ added
+      unfolding fused_by
+      added-is =
+          rw (a, d, q, p)
+          (table_same _ _ n (λ i l. λ t. fused scale (total ws) (direction-at i 0 l t) (direction-at i 1 l t ∷ direction-at i 2 l t ∷ direction-at i 3 l t ∷ [])))
 
-        fits : (p : ℕ) {t : ℕ} → t ≤ most_sum → Fitting (total ws) (direction (get_or fives p (pos 0)) t)
-        fits p l = record { five = fives-within a b p; sum = l }
+      -- it is as small as the clamp takes it
+      pub added-within : 0 < total ws → InRange dh dv gh tv → AllWithin 131072 r
+      unfolding fused_by
+      added-within above b =
+          rw (a, d, q, p)
+          (table-all (λ z. nat_abs z ≤ 131072) _ n (omega arith)
+          (λ i _. fused-within (total ws) _ _ _ _ above (fits i (s-small (i + 1))) (fits (n + i) (s-small i)) (fits (2 * n + i) (b.tv-within i)) (fits (3 * n + i) (b.tv-within (2 * h + i)))))
+        where
+          s-small : AllAtMost most_sum sums
+          s-small = sums-at-most b.gh-within
 
-    added-at : (K i : ℕ) → i < n → get_or (added K) i (pos 0) ≡ fused_by K (total ws) (direction_in ws s h dh dv gh tv (2 * i + odd))
-    unfolding fused_by
-    added-at K i l = get_or-table _ n i (pos 0) l ∙ (λ t. fused K (total ws) (direction-at i 0 l t) (direction-at i 1 l t ∷ direction-at i 2 l t ∷ direction-at i 3 l t ∷ []))
+          fits : (p : ℕ) {t : ℕ} → t ≤ most_sum → Fitting (total ws) (direction (get_or fives p (pos 0)) t)
+          fits p l = record { five = fives-within b.dh-within b.dv-within p; sum = l }
 
-module _ (K : ℕ) (ws : List ℕ) (s odd : ℕ) (x : List ℕ) (dh dv : List ℤ) (gh tv : List ℕ) (bit : odd < 2) where
-  abbrev half : ℕ
-  half = (length x + 1) / 2
+      -- as many numbers, each as small
+      pub added-fit : 0 < total ws → AllWithin most_difference dh → AllWithin most_difference dv → AllAtMost most_gradient gh → AllAtMost most_sum tv → (length r ≡ n) × (AllWithin 131072 r)
+      added-fit above b c g l = (rw a (length-table _ n), added-within above (record { dh-within = b; dv-within = c; gh-within = g; tv-within = l }))
 
-  abbrev pixels : ℕ
-  pixels = (length x + 1 - odd) / 2
-
-  -- what fusion adds is as small as the clamp takes it
-  pub added-fit : (n : ℕ) {T : ℕ} {t : List ℕ} {f r : List ℤ} → T ≡ total ws → t ≡ sums ws s odd n dh dv gh → f ≡ fives ws s odd n dh dv gh → r ≡ table (λ i. fused_by scale T (direction_from n half t tv f i)) n
-      → 0 < total ws → AllWithin most_difference dh → AllWithin most_difference dv → AllAtMost most_gradient gh → AllAtMost most_sum tv → (length r ≡ n) × (AllWithin 131072 r)
-  added-fit n p q d a above b c g l = rw (a, d, q, p) (length-table _ n, added-within ws s odd n dh dv gh bit half tv above b c g l)
-
-  -- green of the row, from what fusion adds at its red and blue pixels
-  pub row-from-sums : {n T : ℕ} {t : List ℕ} {f r : List ℤ} → n ≡ pixels → T ≡ total ws → t ≡ sums ws s odd n dh dv gh → f ≡ fives ws s odd n dh dv gh → r ≡ table (λ i. fused_by K T (direction_from n half t tv f i)) n
-      → table (green_by odd x (λ j. get_or r (j / 2) (pos 0))) (length x) ≡ table (green_in K ws s odd x dh dv gh tv) (length x)
-  unfolding green_in
-  row-from-sums {n} e p q d a =
-      rw (a, d, q, p)
-      (table_same _ _ (length x)
-      (λ j l. choice-same (j + odd) (λ _. refl)
-      (λ red. ap (λ z. clamp (pos (16 * get_or x j 0) +ℤ z))
-      (added-at ws s odd n dh dv gh bit half tv K (j / 2) (omega arith)
-      ∙ (let m : 2 * (j / 2) + odd ≡ j = omega arith in ap (λ i. fused_by K (total ws) (direction_in ws s half dh dv gh tv i)) m)))))
+-- green of a row of readings x, from what fusion adds at its red and blue pixels
+pub row-from-added : (ws : List ℕ) (s odd : ℕ) (x : List ℕ) (dh dv : List ℤ) (gh tv : List ℕ) (bit : odd < 2) {n : ℕ} {r : List ℤ} → n ≡ (length x + 1 - odd) / 2 → r ≡ added ws s odd n dh dv gh bit ((length x + 1) / 2) tv
+    → table (green_by odd x (λ j. get_or r (j / 2) (pos 0))) (length x) ≡ table (green_in scale ws s odd x dh dv gh tv) (length x)
+unfolding green_in
+row-from-added ws s odd x dh dv gh tv bit {n} e a =
+    rw a
+    (table_same _ _ (length x)
+    (λ j l. choice-same (j + odd) (λ _. refl)
+    (λ red. ap (λ z. clamp (pos (16 * get_or x j 0) +ℤ z))
+    (get_or-table _ n (j / 2) (pos 0) (omega arith)
+    ∙ (let m : 2 * (j / 2) + odd ≡ j = omega arith in ap (λ i. fused_by scale (total ws) (direction_in ws s ((length x + 1) / 2) dh dv gh tv i)) m)))))

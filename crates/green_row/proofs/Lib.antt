@@ -5,3 +5,4 @@ pub mod RowLaws
 pub mod RowGreen
 pub mod GreenRow
 pub mod RowHalves
+pub mod ExtendedLaws

@@ -25,10 +25,8 @@ pub fn differences(x: &[u16], step: usize, out: &mut [i16])
     requires { (length out.old + 4 * step ≤ length x.now) × (AllAtMost 4095 x.now) }
     ensures { out.new ≡ table (difference_in step x.now) (length out.old) }
 {
-    let mut k = 0;
-    while k < out.len() {
-        out[k] = difference_at(x, step, k);
-        k += 1;
+    for (k, value) in out.iter_mut().enumerate() {
+        *value = difference_at(x, step, k);
     }
 }
 
@@ -57,9 +55,7 @@ pub fn gradients(d: &[i16], step: usize, out: &mut [u16])
     requires { (length out.old + 4 * step ≤ length d.now) × (Apart step d.now) }
     ensures { out.new ≡ table (gradient_in step d.now) (length out.old) }
 {
-    let mut k = 0;
-    while k < out.len() {
-        out[k] = gradient_at(d, step, k);
-        k += 1;
+    for (k, value) in out.iter_mut().enumerate() {
+        *value = gradient_at(d, step, k);
     }
 }

@@ -22,24 +22,26 @@ fn fives_after(smoothing: u8, d: &[i16], step: usize, at: usize, out: &mut [i32]
 {
     if smoothing == 0 {
         fives(weights_of(0), d, step, at, out);
-        return;
+    } else {
+        fives(weights_of(1), d, step, at, out);
     }
-    fives(weights_of(1), d, step, at, out);
 }
 
-// The same from `at` + 4 * step on, each of its place and those before it.
+// The same from `at` + 4 * step on, each of its place and those before it. One function for both would take the order of the weights as a closure, and its clause
+// would say by that order which places are read: no plainer than these two.
 fn fives_before(smoothing: u8, d: &[i16], step: usize, at: usize, out: &mut [i32])
     requires { at + 2 * length out.old + 4 * step ≤ length d.now }
     ensures { out.new ≡ table (λ k. five_sum (weights_of smoothing) (alternating (before step d.now (at + 4 * step + 2 * k)))) (length out.old) }
 {
     if smoothing == 0 {
         fives(reversed(weights_of(0)), d, step, at, out);
-        return;
+    } else {
+        fives(reversed(weights_of(1)), d, step, at, out);
     }
-    fives(reversed(weights_of(1)), d, step, at, out);
 }
 
 // The five-sums of the n pixels of a row at columns side, side + 2, .., with the weights of a smoothing: all to the east, then west, north and south.
+// Seven parameters: a struct of the differences and their stride would be made for one call alone, as the buffers hold more than is read here: no plainer.
 pub fn row_fives(
     smoothing: u8,
     s: usize,

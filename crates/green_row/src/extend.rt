@@ -4,27 +4,13 @@ ghost use Rattle.green_row.specs.Extended.{column};
 
 use bayer::mirror::mirror;
 
-fn copy(row: &[u16], out: &mut [u16])
-    requires { length out.old ≡ length row.now }
-    ensures { out.new ≡ row.now }
-{
-    let mut k = 0;
-    while k < out.len() {
-        out[k] = row[k];
-        k += 1;
-    }
-}
-
 // Columns from - 7, from - 6, .. of a row, by the mirrors.
 fn edge(row: &[u16], from: usize, out: &mut [u16])
     requires { (2 ≤ length row.now) × (length row.now ≤ 4096) × (from + length out.old ≤ length row.now + 14) }
     ensures { out.new ≡ table (λ k. column row.now (from + k)) (length out.old) }
 {
-    let mut k = 0;
-    while k < out.len() {
-        let p = mirror(row.len(), from + k, 7);
-        out[k] = row[p];
-        k += 1;
+    for (k, reading) in out.iter_mut().enumerate() {
+        *reading = row[mirror(row.len(), from + k, 7)];
     }
 }
 
@@ -37,6 +23,6 @@ pub fn extend(row: &[u16], out: &mut [u16])
     let w = row.len();
     let end = w + 7;
     edge(row, 0, &mut out[0..7]);
-    copy(row, &mut out[7..end]);
+    out[7..end].copy_from_slice(row);
     edge(row, end, &mut out[end..]);
 }

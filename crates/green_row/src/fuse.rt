@@ -3,13 +3,15 @@ ghost use Rattle.whole.specs.Clamp.{clamp};
 ghost use Rattle.lists.specs.Table.{table};
 ghost use Rattle.lists.specs.Bound.{AllAtMost, AllWithin};
 ghost use Rattle.half_rows.specs.HalfRow.{pixels};
-ghost use Rattle.gbtf.specs.Bounds.{most_difference, most_gradient, most_sum};
-ghost use Rattle.gbtf.specs.Direction.{direction};
+ghost use Rattle.gbtf.specs.Bounds.{most_sum};
+ghost use Rattle.gbtf.specs.Direction.{direction, total};
 ghost use Rattle.gbtf.specs.Weights.{scale, weights_of};
-ghost use Rattle.green_row.specs.Directions.{direction_from};
+ghost use Rattle.green_row.specs.Directions.{direction_in, direction_from};
+ghost use Rattle.green_row.specs.Buffers.{AroundRow};
 ghost use Rattle.green_row.specs.GreenIn.{fused_by, green_by, green_in};
 
 use crate::directions::row_fives;
+use crate::room::{Buffers, RowRoom};
 use crate::sums::sums;
 use fusion::pixel::{fusion, green};
 use gbtf::direction::Direction;
@@ -27,7 +29,8 @@ fn direction_at(f: &[i32], p: usize, t: &[u32], q: usize) -> Direction
     }
 }
 
-// What fusion adds at pixel i of n.
+// What fusion adds at pixel i of n. What a loop over pixels reads it is lent as slices, not in a struct, for speed.
+#[tactic(auto, unfolding(crate::specs::GreenIn::fused_by))]
 fn fused_at(total: u32, n: usize, h: usize, t: &[u32], tv: &[u32], f: &[i32], i: usize) -> i32
     requires i_lt_n { (i < n) × (n ≤ h) × (h ≤ 4096) × (length t.now ≡ n + 1) × (length tv.now ≡ 3 * h) × (length f.now ≡ 4 * n) × (0 < total) × (total ≤ 100) }
     requires all_at_most { (AllAtMost most_sum t.now) × (AllAtMost most_sum tv.now) × (AllWithin (32767 * total) f.now) }
@@ -46,10 +49,9 @@ fn fuse_row(total: u32, h: usize, t: &[u32], tv: &[u32], f: &[i32], out: &mut [i
     requires all_at_most { (AllAtMost most_sum t.now) × (AllAtMost most_sum tv.now) × (AllWithin (32767 * total) f.now) }
     ensures { out.new ≡ table (λ i. fused_by scale total (direction_from (length out.old) h t.now tv.now f.now i)) (length out.old) }
 {
-    let mut i = 0;
-    while i < out.len() {
-        out[i] = fused_at(total, out.len(), h, t, tv, f, i);
-        i += 1;
+    let n = out.len();
+    for (i, added) in out.iter_mut().enumerate() {
+        *added = fused_at(total, n, h, t, tv, f, i);
     }
 }
 
@@ -58,10 +60,8 @@ fn estimated(x: &[u16], r: &[i32], out: &mut [u16])
     requires { (2 * length out.old ≤ length x.now + 1) × (length r.now ≡ length out.old) × (AllWithin 131072 r.now) }
     ensures { out.new ≡ table (λ k. clamp (pos (16 * get_or x.now (2 * k) 0) +ℤ get_or r.now k (pos 0))) (length out.old) }
 {
-    let mut k = 0;
-    while k < out.len() {
-        out[k] = green(x[2 * k], r[k]);
-        k += 1;
+    for (k, sample) in out.iter_mut().enumerate() {
+        *sample = green(x[2 * k], r[k]);
     }
 }
 
@@ -77,85 +77,79 @@ fn green_row(x: &[u16], odd: usize, r: &[i32], p: &mut [u16], q: &mut [u16], out
     interleave(odd, p, q, out);
 }
 
-// Green of a row of readings x, by the frame description's smoothing. t, f, r, p and q are room for its direction sums and five-sums, what fusion adds, and two half rows.
-fn fuse(
+// What fusion adds at each red or blue pixel of a row of w columns, by the frame description's smoothing. t and f are room for its direction sums and five-sums.
+// Seven parameters: t, f and `out` are parts of one room, cut to the row, and a struct of the three would be made for one call alone: no plainer.
+fn added(
     smoothing: u8,
-    x: &[u16],
-    s: usize,
+    w: usize,
     odd: usize,
-    dh: &[i16],
-    dv: &[i16],
-    gh: &[u16],
-    tv: &[u32],
+    buffers: &Buffers<'_>,
     t: &mut [u32],
     f: &mut [i32],
-    r: &mut [i32],
-    p: &mut [u16],
-    q: &mut [u16],
-    out: &mut [u16],
+    out: &mut [i32],
 )
-    requires odd_bound { (odd < 2) × (AllAtMost 4095 x.now) × (0 < length x.now) × (length out.old ≡ length x.now) }
-    requires x_len_bound { (length x.now + 14 ≤ s) × (s ≤ 4110) × (length dh.now ≡ 3 * s) × (length dv.now ≡ 9 * s) × (length gh.now + 4 ≡ 3 * s) × (length tv.now ≡ 3 * ((length x.now + 1) / 2)) }
-    requires all_within { (AllWithin most_difference dh.now) × (AllWithin most_difference dv.now) × (AllAtMost most_gradient gh.now) × (AllAtMost most_sum tv.now) }
-    requires r_len { (length r.old ≡ pixels (length x.now) odd)
-        × (length t.old ≡ length r.old + 1)
-        × (length f.old ≡ 4 * length r.old)
-        × (length p.old ≡ length r.old)
-        × (length p.old + length q.old ≡ length x.now) }
-    ensures { out.new ≡ table (green_in scale (weights_of smoothing) s odd x.now dh.now dv.now gh.now tv.now) (length x.now) }
+    requires odd_bound { odd < 2 }
+    requires around { AroundRow w buffers.now.stride (length buffers.now.dh.now) (length buffers.now.dv.now) (length buffers.now.gh.now) (length buffers.now.tv.now) }
+    requires out_len { length out.old ≡ pixels w odd }
+    requires t_len { length t.old ≡ length out.old + 1 }
+    requires f_len { length f.old ≡ 4 * length out.old }
+    ensures value { out.new ≡ table (λ i. fused_by scale (total (weights_of smoothing)) (direction_in (weights_of smoothing) buffers.now.stride ((w + 1) / 2) buffers.now.dh.now buffers.now.dv.now buffers.now.gh.now buffers.now.tv.now (2 * i + odd))) (length out.old) }
+    ensures range { AllWithin 131072 out.new }
 {
-    let h = (x.len() + 1) / 2;
-    sums(gh, s, 3 + odd, t);
-    row_fives(smoothing, s, odd, dh, dv, r.len(), f);
-    fuse_row(total(weights_of(smoothing)), h, t, tv, f, r);
-    green_row(x, odd, r, p, q, out);
+    let h = (w + 1) / 2;
+    let weights = weights_of(smoothing);
+    sums(buffers.gh, buffers.stride, 3 + odd, t);
+    row_fives(
+        smoothing,
+        buffers.stride,
+        odd,
+        buffers.dh,
+        buffers.dv,
+        out.len(),
+        f,
+    );
+    fuse_row(total(weights), h, t, buffers.tv, f, out);
 }
 
-// The same, in as much of the room as the row needs. What the room held before does not matter, and what it holds afterwards is not promised.
+// Green of a row of readings x, by the frame description's smoothing, in as much of the room as the row needs.
 pub fn fuse_in(
     smoothing: u8,
     x: &[u16],
-    s: usize,
     odd: usize,
-    dh: &[i16],
-    dv: &[i16],
-    gh: &[u16],
-    tv: &[u32],
-    t: &mut [u32],
-    f: &mut [i32],
-    r: &mut [i32],
-    p: &mut [u16],
-    q: &mut [u16],
+    buffers: &Buffers<'_>,
+    room: &mut RowRoom<'_>,
     out: &mut [u16],
 )
-    requires odd_bound { (odd < 2) × (AllAtMost 4095 x.now) × (0 < length x.now) × (length out.old ≡ length x.now) }
-    requires x_len_bound { (length x.now + 14 ≤ s) × (s ≤ 4110) × (length dh.now ≡ 3 * s) × (length dv.now ≡ 9 * s) × (length gh.now + 4 ≡ 3 * s) × (length tv.now ≡ 3 * ((length x.now + 1) / 2)) }
-    requires all_within { (AllWithin most_difference dh.now) × (AllWithin most_difference dv.now) × (AllAtMost most_gradient gh.now) × (AllAtMost most_sum tv.now) }
-    requires x_in_bounds { ((length x.now + 1) / 2 + 1 ≤ length t.old)
-        × (4 * ((length x.now + 1) / 2) ≤ length f.old)
-        × ((length x.now + 1) / 2 ≤ length r.old)
-        × ((length x.now + 1) / 2 ≤ length p.old)
-        × ((length x.now + 1) / 2 ≤ length q.old) }
-    ensures { out.new ≡ table (green_in scale (weights_of smoothing) s odd x.now dh.now dv.now gh.now tv.now) (length x.now) }
+    requires odd_bound { odd < 2 }
+    requires x_len { 0 < length x.now }
+    requires x_at_most { AllAtMost 4095 x.now }
+    requires out_len { length out.old ≡ length x.now }
+    requires around { AroundRow (length x.now) buffers.now.stride (length buffers.now.dh.now) (length buffers.now.dv.now) (length buffers.now.gh.now) (length buffers.now.tv.now) }
+    requires room_for_x { length x.now ≤ room.old }
+    ensures value { out.new ≡ table (green_in scale (weights_of smoothing) buffers.now.stride odd x.now buffers.now.dh.now buffers.now.dv.now buffers.now.gh.now buffers.now.tv.now) (length x.now) }
+    ensures same_room { room.new ≡ room.old }
 {
-    let n = (x.len() + 1 - odd) / 2;
-    let m = x.len() - n;
-    let ts = n + 1;
-    let fs = 4 * n;
-    fuse(
+    let w = x.len();
+    let n = (w + 1 - odd) / 2;
+    let m = w - n;
+    let sums = n + 1;
+    let fives = 4 * n;
+    let r = &mut room.added[0..n];
+    added(
         smoothing,
-        x,
-        s,
+        w,
         odd,
-        dh,
-        dv,
-        gh,
-        tv,
-        &mut t[0..ts],
-        &mut f[0..fs],
-        &mut r[0..n],
-        &mut p[0..n],
-        &mut q[0..m],
+        buffers,
+        &mut room.sums[0..sums],
+        &mut room.fives[0..fives],
+        r,
+    );
+    green_row(
+        x,
+        odd,
+        r,
+        &mut room.half[0..n],
+        &mut room.other_half[0..m],
         out,
     );
 }

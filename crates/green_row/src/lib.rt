@@ -5,4 +5,5 @@ pub mod along;
 pub mod directions;
 pub mod extend;
 pub mod fuse;
+pub mod room;
 pub mod sums;

@@ -25,10 +25,8 @@ pub fn sums(g: &[u16], s: usize, at: usize, out: &mut [u32])
     requires { at + 2 * length out.old + 2 * s < length g.now }
     ensures { out.new ≡ table (λ k. direction_sum (window_in s g.now (at + 2 * k))) (length out.old) }
 {
-    let mut k = 0;
-    while k < out.len() {
-        out[k] = direction_sum(window(g, s, at + 2 * k));
-        k += 1;
+    for (k, value) in out.iter_mut().enumerate() {
+        *value = direction_sum(window(g, s, at + 2 * k));
     }
 }
 
@@ -57,10 +55,8 @@ fn fives_across(
         × (2 * length out.old ≤ length e.now + 1) }
     ensures { out.new ≡ table (λ k. five_sum weights (alternating (across a.now b.now c.now d.now e.now (2 * k)))) (length out.old) }
 {
-    let mut k = 0;
-    while k < out.len() {
-        out[k] = five_at(weights, a, b, c, d, e, 2 * k);
-        k += 1;
+    for (k, value) in out.iter_mut().enumerate() {
+        *value = five_at(weights, a, b, c, d, e, 2 * k);
     }
 }
 

@@ -1,6 +1,6 @@
 -- A row and its two half rows. Assumes nothing.
 use Prim.Native.Nat.{ℕ, ◌+◌, ◌*◌, ◌-◌, ◌/◌, ◌%◌, ◌<◌}
-use mathlib.Core.Path.{◌≡◌, ap, ◌∙◌}
+use mathlib.Core.Path.{◌≡◌, sym, ap, ◌∙◌}
 use mathlib.Core.Bool.{true, false, cond}
 use mathlib.Core.List.{List}
 use native.Mathlib.Decide.{dec_le}
@@ -30,16 +30,10 @@ by-parity n first second =
 pub choice-same : (n : ℕ) {a b c d : ℕ} → (n % 2 ≡ 1 → a ≡ c) → (n % 2 ≡ 0 → b ≡ d) → cond (is_odd n) a b ≡ cond (is_odd n) c d
 choice-same n first second = by-parity n (λ e. rw (odd n e) (first e)) (λ e. rw (even n e) (second e))
 
--- ---- column j, which is place k of a half row
-
-module _ (p q : List ℕ) (j k : ℕ) (at : j / 2 ≡ k) where
-  pub in-even : j % 2 ≡ 0 → interleaved 0 p q j ≡ get_or p k 0
-  unfolding interleaved
-  in-even e = rw (even (j + 0) (omega arith)) (ap (λ n. get_or p n 0) at)
-
-  pub in-odd : j % 2 ≡ 1 → interleaved 0 p q j ≡ get_or q k 0
-  unfolding interleaved
-  in-odd e = rw (odd (j + 0) (omega arith)) (ap (λ n. get_or q n 0) at)
+-- column j from place j / 2 of the half row of its parity
+pub interleaved-entry : (p q : List ℕ) (j : ℕ) {x : ℕ} → (j % 2 ≡ 0 → x ≡ get_or p (j / 2) 0) → (j % 2 ≡ 1 → x ≡ get_or q (j / 2) 0) → x ≡ interleaved 0 p q j
+unfolding interleaved
+interleaved-entry p q j first second = sym (by-parity (j + 0) (λ e. sym (second (omega arith))) (λ e. sym (first (omega arith))))
 
 -- the half rows, exchanged
 pub exchanged : (p q : List ℕ) (j : ℕ) → interleaved 0 q p j ≡ interleaved 1 p q j

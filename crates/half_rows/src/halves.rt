@@ -6,18 +6,17 @@ ghost use Rattle.half_rows.specs.HalfRow.{places, half_column};
 use bayer::mirror::mirror;
 
 // From place `from` on, by the mirrors.
+// Fills two half rows at once, the `edge` of `green_row::extend` one row: one function for both would be no plainer.
 fn edge(row: &[u16], from: usize, e: &mut [u16], o: &mut [u16])
     requires { (2 ≤ length row.now) × (length row.now ≤ 4096) × (from + length e.old ≤ 4096) × (length o.old ≡ length e.old) }
     ensures { (e.new ≡ table (λ k. half_column 0 row.now (from + k)) (length e.old))
         × (o.new ≡ table (λ k. half_column 1 row.now (from + k)) (length o.old)) }
 {
-    let mut k = 0;
-    while k < e.len() {
+    for k in 0..e.len() {
         let p = mirror(row.len(), 2 * (from + k), 2);
         let q = mirror(row.len(), 2 * (from + k) + 1, 2);
         e[k] = row[p];
         o[k] = row[q];
-        k += 1;
     }
 }
 
@@ -27,11 +26,9 @@ fn split(row: &[u16], e: &mut [u16], o: &mut [u16])
     ensures { (e.new ≡ table (λ k. get_or row.now (2 * k) 0) (length e.old))
         × (o.new ≡ table (λ k. get_or row.now (2 * k + 1) 0) (length o.old)) }
 {
-    let mut k = 0;
-    while k < e.len() {
+    for k in 0..e.len() {
         e[k] = row[2 * k];
         o[k] = row[2 * k + 1];
-        k += 1;
     }
 }
 

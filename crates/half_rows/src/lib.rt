@@ -13,10 +13,8 @@ pub fn observed(x: &[u16], out: &mut [u16])
     requires { (AllAtMost 4095 x.now) × (2 * length out.old ≤ length x.now + 1) }
     ensures { out.new ≡ table (λ k. 16 * get_or x.now (2 * k) 0) (length out.old) }
 {
-    let mut k = 0;
-    while k < out.len() {
-        out[k] = 16 * x[2 * k];
-        k += 1;
+    for (k, sample) in out.iter_mut().enumerate() {
+        *sample = 16 * x[2 * k];
     }
 }
 
@@ -26,11 +24,9 @@ fn join(e: &[u16], o: &[u16], out: &mut [u16])
     ensures { out.new ≡ table (interleaved 0 e.now o.now) (length out.old) }
 {
     let n = out.len() / 2;
-    let mut k = 0;
-    while k < n {
+    for k in 0..n {
         out[2 * k] = e[k];
         out[2 * k + 1] = o[k];
-        k += 1;
     }
     if 2 * n < out.len() {
         out[2 * n] = e[n];
@@ -44,7 +40,7 @@ pub fn interleave(side: usize, p: &[u16], q: &[u16], out: &mut [u16])
 {
     if side == 0 {
         join(p, q, out);
-        return;
+    } else {
+        join(q, p, out);
     }
-    join(q, p, out);
 }

@@ -14,6 +14,7 @@ pub fn read_full<R: Read>(reader: &mut R, buffer: &mut [u8]) -> io::Result<usize
     ensures bytes { IfOk result (λ n. IfSome (R.remaining reader.old) (λ input. take n buffer.new ≡ take (length buffer.new) input)) }
 {
     let mut at = 0;
+    // A `while`, since how far a turn goes is what the reader says: a `for` would be no plainer.
     while at < buffer.len() {
         let n = reader.read(&mut buffer[at..])?;
         if n == 0 {

@@ -1,5 +1,5 @@
--- Whether some element passes a test: laws for loops that look at one after the other; and what holds of all if none does. Assumes nothing.
-use Prim.Native.Nat.{ℕ, zero, suc, ◌+◌, ◌≤◌, ◌<◌}
+-- Whether some element passes a test: laws of lists one element longer and of lists given by a rule; and what holds of all if none does. Assumes nothing.
+use Prim.Native.Nat.{ℕ, zero, suc, ◌+◌, ◌<◌}
 use mathlib.Core.Path.{◌≡◌, refl, sym, ap, ◌∙◌}
 use mathlib.Core.Bool.{Bool, true, false, ◌||◌}
 use mathlib.Core.List.{List, [], ◌∷◌, ◌++◌}
@@ -9,8 +9,8 @@ use native.Mathlib.Numerals.{add-one}
 use native.Mathlib.Omega.{arith}
 use borrow.Author.Tests.{ltb-false, le-ltb}
 use lib.Dec.{ltb}
-use lib.ListN.{length, get_or, drop, drop_of_length-le}
-use lib.Seq.{drop-cons}
+use lib.ListN.{length, get_or, take}
+use Rattle.std.proofs.lemmas.List.{take_more}
 use Rattle.whole.proofs.Tests.{neither}
 use Rattle.lists.specs.Any.{any}
 use Rattle.lists.specs.Table.{table, joined}
@@ -27,17 +27,6 @@ or-true false = refl
 or-false : (a : Bool) → a || false ≡ a
 or-false true = refl
 or-false false = refl
-
--- ---- b: whether some element before place i passes
-
-module _ {A : Type 0} (p : A → Bool) (l : List A) (i : ℕ) (b : Bool) where
-  pub any_next : (d : A) → i < length l → b || any p (drop i l) ≡ (b || p (get_or l i d)) || any p (drop (i + 1) l)
-  unfolding any
-  any_next d h = rw (add-one i, drop-cons l i d h) (or_assoc b (p (get_or l i d)) (any p (drop (suc i) l)))
-
-  pub any-end : length l ≤ i → b || any p (drop i l) ≡ b
-  unfolding any
-  any-end h = rw (drop_of_length-le l {i = i} h) (or-false b)
 
 -- ---- up to a place of a list that is given by a rule
 
@@ -70,6 +59,11 @@ module _ {A : Type 0} (p : A → Bool) where
   unfolding any
   any_append [] ys = refl
   any_append (x ∷ xs) ys = ap (λ b. p x || b) (any_append xs ys) ∙ or_assoc (p x) (any p xs) (any p ys)
+
+  -- one more element
+  pub any_more : (l : List A) (i : ℕ) (d : A) → i < length l → any p (take (i + 1) l) ≡ any p (take i l) || p (get_or l i d)
+  unfolding any
+  any_more l i d h = rw (take_more l i d h) (any_append (take i l) (get_or l i d ∷ []) ∙ ap (λ b. any p (take i l) || b) (or-false (p (get_or l i d))))
 
   pub any-table : (f : ℕ → A) (n : ℕ) → any p (table f (n + 1)) ≡ any p (table f n) || p (f n)
   unfolding any table

@@ -7,7 +7,7 @@ use native.Mathlib.Nat.{div-lt_self, div-lt_iff_lt-mul}
 use native.Mathlib.Omega.{arith}
 use borrow.Author.Tests.{lt-ltb, le-ltb}
 use lib.ListN.{length, length-append}
-use Rattle.plane_text.specs.Text.{digits, decimal, spaced}
+use Rattle.plane_text.specs.Text.{digits, decimal}
 
 -- room for more digits changes nothing
 digits_same : (k m n : ℕ) → n < k → n < m → digits k n ≡ digits m n
@@ -49,6 +49,5 @@ decimal-within (suc k) n h =
       | no t ↦ omega (arith, length-one n (omega arith))
     ]
 
-pub spaced-fits : (n : ℕ) → n < 4294967296 → length (spaced n) ≤ 11
-unfolding spaced
-spaced-fits n h = omega (arith, decimal-within 9 n (omega arith))
+pub decimal_fits : (n : ℕ) → n < 4294967296 → length (decimal n) ≤ 10
+decimal_fits n h = decimal-within 9 n (omega arith)

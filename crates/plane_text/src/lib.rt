@@ -1,6 +1,5 @@
-// The lines that a program prints of three planes, or of a refusal, put into a lent buffer.
+// The lines that a program prints of three planes, or of a refusal, as a value that can be put into a lent buffer.
 #![tactic(auto)]
 
-pub mod lines;
 pub mod statistics;
 pub mod text;

@@ -1,67 +1,129 @@
-ghost use Rattle.std.specs.Prelude.{◌∷◌, [], ◌+◌, ◌≤◌, ◌<◌, length};
-ghost use Rattle.plane_text.specs.Text.{decimal, spaced, plane_line, refusal_line};
+ghost use Rattle.std.specs.Prelude.{◌≡◌, ◌∷◌, [], ◌++◌, ◌+◌, ◌≤◌, ◌<◌, List, ℕ, length, take};
+ghost use Rattle.bayer.specs.Planes.{three_planes};
+ghost use Rattle.plane_text.specs.Text.{decimal, spaced, plane_line, lines, refusal_line};
 ghost use Rattle.plane_text.specs.Written.{Written};
 
 use crate::statistics::{largest_of, smallest_of, sum_of};
+use std::marker::Model;
 
-// Each of these puts its text into `out` from byte `at` on, and answers where the text ends.
-fn put_byte(byte: u8, out: &mut [u8], at: usize) -> usize
-    requires { at < length out.old }
-    ensures { Written (byte ∷ []) at out.old out.new result }
-{
-    out[at] = byte;
-    at + 1
+// What a program prints, in memory of its own: at most three lines of 35 bytes. Its methods append bytes, and are no `fmt::Write`: of a `write!` that gives an
+// `Err` nothing is known, and what has room cannot fail. A buffer with its length, and no `Vec` or `ArrayVec`: there is no heap, and nothing new is trusted.
+#[derive(Drop)]
+pub struct Text {
+    bytes: [u8; 105],
+    length: usize,
 }
 
-fn put_text(text: &[u8], out: &mut [u8], at: usize) -> usize
-    requires { at + length text.now ≤ length out.old }
-    ensures { Written text.now at out.old out.new result }
-{
-    let mut i = 0;
-    while i < text.len() {
-        out[at + i] = text[i];
-        i += 1;
+impl Model for Text {
+    ghost Value = { List ℕ };
+
+    ghost view = { λ t. take t.length t.bytes };
+
+    ghost invariant = { λ t. t.length ≤ 105 };
+}
+
+impl Text {
+    pub fn new() -> Self
+        ensures { result ≡ [] }
+    {
+        Text {
+            bytes: [0; 105],
+            length: 0,
+        }
     }
-    at + i
-}
 
-fn put_decimal(n: u32, out: &mut [u8], at: usize) -> usize
-    requires { at + length (decimal n) ≤ length out.old }
-    ensures { Written (decimal n) at out.old out.new result }
-{
-    if n < 10 {
-        return put_byte(48 + n as u8, out, at);
+    pub fn len(&self) -> usize
+        ensures length { result ≡ length self.now }
+        ensures upper_bound { length self.now ≤ 105 }
+    {
+        self.length
     }
-    let last = put_decimal(n / 10, out, at);
-    put_byte(48 + (n % 10) as u8, out, last)
-}
 
-fn put_spaced(n: u32, out: &mut [u8], at: usize) -> usize
-    requires { at + length (spaced n) ≤ length out.old }
-    ensures { Written (spaced n) at out.old out.new result }
-{
-    let first = put_byte(b' ', out, at);
-    put_decimal(n, out, first)
-}
+    fn push(&mut self, byte: u8)
+        requires { length self.old < 105 }
+        ensures byte { self.new ≡ self.old ++ byte ∷ [] }
+        ensures length { length self.new ≡ length self.old + 1 }
+    {
+        self.bytes[self.length] = byte;
+        self.length += 1;
+    }
 
-// At most 35 bytes.
-pub fn put_plane_line(letter: u8, plane: &[u16], out: &mut [u8], at: usize) -> usize
-    requires { (length plane.now ≤ 4096) × (at + 35 ≤ length out.old) }
-    ensures { Written (plane_line letter plane.now) at out.old out.new result × (result ≤ at + 35) }
-{
-    let a = put_byte(letter, out, at);
-    let b = put_spaced(smallest_of(plane) as u32, out, a);
-    let c = put_spaced(largest_of(plane) as u32, out, b);
-    let d = put_spaced(sum_of(plane), out, c);
-    put_byte(b'\n', out, d)
-}
+    fn push_decimal(&mut self, n: u32)
+        requires { length self.old + length (decimal n) ≤ 105 }
+        ensures digits { self.new ≡ self.old ++ decimal n }
+        ensures length { length self.new ≡ length self.old + length (decimal n) }
+    {
+        if n >= 10 {
+            self.push_decimal(n / 10);
+        }
+        self.push(b'0' + (n % 10) as u8);
+    }
 
-// At most 19 bytes.
-pub fn put_refusal_line(number: u32, out: &mut [u8]) -> usize
-    requires { 19 ≤ length out.old }
-    ensures { Written (refusal_line number) 0 out.old out.new result × (result ≤ 19) }
-{
-    let a = put_text(b"refused", out, 0);
-    let b = put_spaced(number, out, a);
-    put_byte(b'\n', out, b)
+    // At most 11 bytes.
+    #[tactic(auto, using(crate::proofs::DecimalLaws::decimal_fits), unfolding(crate::specs::Text::spaced))]
+    fn push_spaced(&mut self, n: u32)
+        requires { length self.old + 11 ≤ 105 }
+        ensures spaced { self.new ≡ self.old ++ spaced n }
+        ensures bound { length self.new ≤ length self.old + 11 }
+    {
+        self.push(b' ');
+        self.push_decimal(n);
+    }
+
+    // At most 35 bytes.
+    #[tactic(auto, unfolding(crate::specs::Text::plane_line))]
+    pub fn push_plane_line(&mut self, letter: u8, plane: &[u16])
+        requires samples { length plane.now ≤ 4096 }
+        requires room { length self.old + 35 ≤ 105 }
+        ensures line { self.new ≡ self.old ++ plane_line letter plane.now }
+        ensures bound { length self.new ≤ length self.old + 35 }
+    {
+        self.push(letter);
+        self.push_spaced(u32::from(smallest_of(plane)));
+        self.push_spaced(u32::from(largest_of(plane)));
+        self.push_spaced(sum_of(plane));
+        self.push(b'\n');
+    }
+
+    // The three lines of the planes.
+    #[tactic(auto, unfolding(crate::specs::Text::lines))]
+    pub fn lines(red: &[u16], green: &[u16], blue: &[u16]) -> Self
+        requires red { length red.now ≤ 4096 }
+        requires green { length green.now ≤ 4096 }
+        requires blue { length blue.now ≤ 4096 }
+        ensures lines { result ≡ lines (three_planes red.now green.now blue.now) }
+        ensures upper_bound { length result ≤ 105 }
+    {
+        let mut text = Text::new();
+        text.push_plane_line(b'R', red);
+        text.push_plane_line(b'G', green);
+        text.push_plane_line(b'B', blue);
+        text
+    }
+
+    // By its number: `refusal_line` is promised of every number.
+    #[tactic(auto, unfolding(crate::specs::Text::refusal_line))]
+    pub fn refusal(number: u32) -> Self
+        ensures line { result ≡ refusal_line number }
+        ensures upper_bound { length result ≤ 19 }
+    {
+        let mut text = Text::new();
+        for &byte in b"refused" {
+            text.push(byte);
+        }
+        text.push_spaced(number);
+        text.push(b'\n');
+        text
+    }
+
+    // Puts the text at the start of `out`, and answers how many bytes it has.
+    pub fn put(&self, out: &mut [u8]) -> usize
+        requires { length self.now ≤ length out.old }
+        ensures written { Written self.now 0 out.old out.new result }
+        ensures upper_bound { result ≤ 105 }
+    {
+        let size = self.len();
+        out[..size].copy_from_slice(&self.bytes[..size]);
+        size
+    }
 }

@@ -9,39 +9,49 @@ use input::read_full;
 use std::io;
 use test_bytes::answer as test_answer;
 
-fn answer_of(program: u8, bytes: &[u8], out: &mut [u8]) -> usize
-    ensures { result ≤ 105 }
-{
-    if program == 0 {
-        return answer::answer(bytes, out);
-    }
-    test_answer::answer(bytes, out)
+// The small programs.
+#[derive(Clone, Copy)]
+enum Program {
+    FrameFile,
+    TestFrame,
 }
 
-fn print_answer(rt: &impl Print, program: u8, bytes: &[u8]) -> io::Result<()> {
+// By the byte that stands in the input.
+impl From<u8> for Program {
+    fn from(byte: u8) -> Self {
+        match byte {
+            0 => Program::FrameFile,
+            _ => Program::TestFrame,
+        }
+    }
+}
+
+impl Program {
+    fn answer(self, bytes: &[u8], out: &mut [u8]) -> usize
+        ensures { result ≤ 105 }
+    {
+        match self {
+            Program::FrameFile => answer::answer(bytes, out),
+            Program::TestFrame => test_answer::answer(bytes, out),
+        }
+    }
+}
+
+fn print_answer(rt: &impl Print, program: Program, bytes: &[u8]) -> io::Result<()> {
     let mut out = [0u8; 105];
-    let size = answer_of(program, bytes, &mut out);
+    let size = program.answer(bytes, &mut out);
     rt.write_all(&out[..size])
 }
 
-fn wide(x: u8) -> usize
-    ensures { result ≤ 255 }
-{
-    x as usize
-}
-
 fn print_answers(rt: &impl Print, bytes: &[u8]) -> io::Result<()> {
-    let mut at = 0;
-    while 3 <= bytes.len() - at {
-        let high = at + 1;
-        let low = at + 2;
-        let start = at + 3;
-        let end = start + (wide(bytes[high]) * 256 + wide(bytes[low]));
-        if bytes.len() < end {
+    let mut rest = bytes;
+    while let [program, high, low, behind @ ..] = rest {
+        let size = usize::from(u16::from_be_bytes([*high, *low]));
+        if behind.len() < size {
             return Ok(());
         }
-        print_answer(rt, bytes[at], &bytes[start..end])?;
-        at = end;
+        print_answer(rt, Program::from(*program), &behind[..size])?;
+        rest = &behind[size..];
     }
     Ok(())
 }

@@ -1,4 +1,4 @@
-// The small program again. rt ci runs it on a file that would be a frame file without its last byte.
+// The small program again, as a program has one input under the gate: rt ci runs it on a file that would be a frame file without its last byte.
 #![tactic(auto)]
 
 use std::io;

@@ -1,4 +1,4 @@
-// The small program again. rt ci runs it on the longest file that it takes.
+// The small program again, as a program has one input under the gate: rt ci runs it on the longest file that it takes.
 #![tactic(auto)]
 
 use std::io;

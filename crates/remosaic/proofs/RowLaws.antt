@@ -62,15 +62,19 @@ module _ {f : Frame} {a n : ℕ} {planes : Planes} (w : RowsLent f a n planes) (
       rw (row-entry W i (planes Green) j k, row-entry W i (planes p) j k)
       (chosen g (is_odd (j + starts_green f.layout (a + i))) Green p ∙ sym (ap g (row-colour f.layout (a + i) j w.frame.known)))
 
-  -- along the rows that the code has taken, with g for what it makes of each sample
-  pub along-row : (g : ℕ → ℕ) {odd v : ℕ} {green other : List ℕ} → odd ≡ starts_green f.layout v → v ≡ a + i → green ≡ row_of W i (planes Green) → other ≡ row_of W i (plane_of p (planes Red) (planes Blue))
-      → (odd < 2) × (length green ≡ W) × (length other ≡ length green) × (table (λ j. g (observed_in odd green other j)) (length green) ≡ table (λ j. g (observed f a planes i j)) W)
-  along-row g {odd} {v} {green} {other} s z e r =
+  -- along the rows that the code has taken
+  pub along-row : {odd v : ℕ} {green other : List ℕ} → odd ≡ starts_green f.layout v → v ≡ a + i → green ≡ row_of W i (planes Green) → other ≡ row_of W i (plane_of p (planes Red) (planes Blue))
+      → (odd < 2) × (length green ≡ W) × (length other ≡ length green) × ((j : ℕ) → j < W → observed_in odd green other j ≡ observed f a planes i j)
+  along-row {odd} {v} {green} {other} s z e r =
       let o : odd ≡ starts_green f.layout (a + i) = s ∙ ap (starts_green f.layout) z in
       let l : length green ≡ W = ap length e ∙ row-length W i (planes Green) (has-row Green) in
       let q : other ≡ row_of W i (planes p) = r ∙ ap (row_of W i) other-is in (
         omega (arith, o, starts-below f.layout (a + i)),
         l,
         ap length q ∙ row-length W i (planes p) (has-row p) ∙ sym l,
-        rw (l, o, e, q) (table_same _ _ W (λ j k. ap g (own j k))),
+        λ j k. rw (o, e, q) (own j k),
       )
+
+-- what is made of each sample of a row of w, where its samples are known by a rule
+pub row-table : (g : ℕ → ℕ) {sample rule : ℕ → ℕ} {n w : ℕ} → n ≡ w → ((j : ℕ) → j < w → sample j ≡ rule j) → table (λ j. g (sample j)) n ≡ table (λ j. g (rule j)) w
+row-table g e h = rw e (table_same _ _ _ (λ j k. ap g (h j k)))

@@ -6,7 +6,8 @@ use Rattle.bayer.specs.declared.colour.Colour.TheVariants.{Red, Green, Blue}
 use Rattle.bayer.specs.declared.frame.Frame.{Frame}
 use Rattle.bayer.specs.Colour.{colour_at}
 use Rattle.bayer.specs.Planes.{Planes}
-use Rattle.bayer.specs.Refusal.{Case, ◌when◌, wrong_plane_length, not_camera_planes, first_of, Delivers}
+use Rattle.bayer.specs.declared.refusal.Refusal.TheVariants.{WrongPlaneLength, NotCameraPlanes}
+use Rattle.bayer.specs.Refusal.{Case, ◌when◌, first_of, Delivers}
 use Rattle.bayer.specs.Condition.{frame_cases, rows_cases, planes_misfit}
 
 -- the observed sample at row i of a strip from row a on, which is row a + i of the frame, and column j: that of the pixel's own colour
@@ -24,8 +25,8 @@ not_of_camera sample = not (eqb (sample % 16) 0) || ltb 65520 sample
 -- 5, which covers the lent mosaic too; 9, if an observed sample is so
 abbrev pub lent_cases : Frame → (a n : ℕ) → Planes → (mosaic : ℕ) → List Case
 lent_cases f a n planes mosaic =
-    (wrong_plane_length when (planes_misfit (n * f.width) (length (planes Red)) (length (planes Green)) (length (planes Blue)) || not (eqb mosaic (n * f.width))))
-    ∷ (not_camera_planes when any not_of_camera (observed_rows f a n planes))
+    (WrongPlaneLength when (planes_misfit (n * f.width) (length (planes Red)) (length (planes Green)) (length (planes Blue)) || not (eqb mosaic (n * f.width))))
+    ∷ (NotCameraPlanes when any not_of_camera (observed_rows f a n planes))
     ∷ []
 
 -- the number of the refusal, the first that holds: 1, 2; 3; 5; 9. 0: accepted

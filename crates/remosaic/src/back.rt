@@ -1,53 +1,41 @@
-ghost use Rattle.std.specs.Prelude.{◌≡◌, ◌*◌, ◌/◌, ◌≤◌, ◌<◌, length};
+ghost use Rattle.std.specs.Prelude.{◌≡◌, ◌*◌, ◌/◌, length};
 ghost use Rattle.lists.specs.Table.{table};
 ghost use Rattle.bayer.specs.Planes.{three_planes};
+ghost use Rattle.bayer.specs.Refusal.{answer_number};
 ghost use Rattle.remosaic.specs.MosaicBack.{mosaic_rows, MosaicPromise};
-ghost use Rattle.remosaic.specs.Rows.{RowsLent, observed_in};
+ghost use Rattle.remosaic.specs.Rows.{observed_in};
 
 use crate::check::mosaic_back_check;
-use crate::planes::{own_sample, partner_row};
+use crate::rows::{PlaneRow, PlaneRows};
 use bayer::frame::Frame;
-use bayer::parity::starts_green;
+use bayer::refusal::Refusal;
 
 // A row of readings, from the row in the planes of its two colours.
-fn row_back(green: &[u16], other: &[u16], odd: usize, out: &mut [u16])
-    requires { (odd < 2) × (length green.now ≤ 4096) × (length other.now ≡ length green.now) × (length out.old ≡ length green.now) }
-    ensures { out.new ≡ table (λ j. observed_in odd green.now other.now j / 16) (length green.now) }
+fn row_back(row: &PlaneRow<'_>, out: &mut [u16])
+    requires { length out.old ≡ length row.now.green.now }
+    ensures { out.new ≡ table (λ j. observed_in row.now.odd row.now.green.now row.now.other.now j / 16) (length row.now.green.now) }
 {
-    let mut j = 0;
-    while j < out.len() {
-        out[j] = own_sample(odd, j, green[j], other[j]) / 16;
-        j += 1;
+    for (j, reading) in out.iter_mut().enumerate() {
+        *reading = row.sample(j) / 16;
     }
 }
 
-// The readings of rows a to a + n - 1.
-fn rows_back<'a>(
-    frame: Frame,
-    a: usize,
-    n: usize,
-    red: &'a [u16],
-    green: &'a [u16],
-    blue: &'a [u16],
-    mosaic: &mut [u16],
-)
-    requires { (RowsLent frame a n (three_planes red.now green.now blue.now)) × (length mosaic.old ≡ n * frame.width) }
-    ensures { mosaic.new ≡ mosaic_rows frame a n (three_planes red.now green.now blue.now) }
+// The readings of all the rows.
+fn rows_back(planes: &PlaneRows<'_>, mosaic: &mut [u16])
+    requires { length mosaic.old ≡ planes.now.n * planes.now.frame.width }
+    ensures { mosaic.new ≡ mosaic_rows planes.now.frame planes.now.a planes.now.n (three_planes planes.now.red.now planes.now.green.now planes.now.blue.now) }
 {
-    let w = frame.width;
-    let mut i = 0;
-    while i < n {
-        let other = partner_row(frame, a, i, red, blue);
-        let odd = starts_green(frame.layout, a + i);
-        let at = i * w;
-        let end = at + w;
-        row_back(&green[at..end], other, odd, &mut mosaic[at..end]);
-        i += 1;
+    let width = planes.frame.width;
+    for i in 0..planes.n {
+        let at = i * width;
+        let end = at + width;
+        row_back(&planes.row(i), &mut mosaic[at..end]);
     }
 }
 
-// Writes the readings of rows a to a + n - 1 of a frame into the lent mosaic, from the three planes of these rows, n * W samples each. The answer is 0; or
-// the number of a refusal, and the mosaic is as it was.
+// Writes the readings of rows a to a + n - 1 of a frame into the lent mosaic, from the three planes of these rows, n * W samples each. Or it is refused, and
+// the mosaic is as it was. The planes come one by one, as C lends them.
+#[tactic(auto, using(bayer::proofs::RefusalLaws::refused))]
 pub fn mosaic_back<'a>(
     frame: Frame,
     a: usize,
@@ -56,13 +44,18 @@ pub fn mosaic_back<'a>(
     green: &'a [u16],
     blue: &'a [u16],
     mosaic: &mut [u16],
-) -> u32
-    ensures { MosaicPromise frame a n (three_planes red.now green.now blue.now) mosaic.old result mosaic.new }
+) -> Result<(), Refusal>
+    ensures { MosaicPromise frame a n (three_planes red.now green.now blue.now) mosaic.old (answer_number result) mosaic.new }
 {
-    let number = mosaic_back_check(frame, a, n, red, green, blue, mosaic.len());
-    if number != 0 {
-        return number;
-    }
-    rows_back(frame, a, n, red, green, blue, mosaic);
-    0
+    mosaic_back_check(frame, a, n, red, green, blue, mosaic.len())?;
+    let planes = PlaneRows {
+        frame,
+        a,
+        n,
+        red,
+        green,
+        blue,
+    };
+    rows_back(&planes, mosaic);
+    Ok(())
 }

@@ -4,3 +4,4 @@
 pub mod back;
 pub mod check;
 pub mod planes;
+pub mod rows;

@@ -11,7 +11,8 @@ use Rattle.whole.proofs.Tests.{neither}
 use Rattle.bayer.specs.declared.colour.Colour.{Colour}
 use Rattle.bayer.specs.declared.frame.Frame.{Frame}
 use Rattle.bayer.specs.Planes.{Planes}
-use Rattle.bayer.specs.Refusal.{◌when◌, over_preview_size, first_of}
+use Rattle.bayer.specs.declared.refusal.Refusal.TheVariants.{OverPreviewSize}
+use Rattle.bayer.specs.Refusal.{◌when◌, first_of}
 use Rattle.bayer.specs.Condition.{frame_cases, smoothing_cases, rows_cases, range_cases}
 use Rattle.bayer.proofs.RefusalLaws.{or_else, first-append, never}
 use Rattle.strip.specs.declared.entry.Entry.{Entry}
@@ -61,7 +62,7 @@ module _ (f : Frame) (a n : ℕ) (piece : List ℕ) (red green blue : ℕ) where
   -- beyond them the preview answers 11, unless 1, 2, 10 or 3 holds
   pub beyond-limits : (1024 < f.width) ⊎ (64 < n) → number Preview ≡ or_else (first_of (frame_cases f ++ (smoothing_cases f.smoothing ++ rows_cases f a n))) 11
   unfolding strip_number first_of
-  beyond-limits h = rw (over f.width n h) (first-append (frame_cases f ++ (smoothing_cases f.smoothing ++ rows_cases f a n)) ((over_preview_size when true) ∷ []))
+  beyond-limits h = rw (over f.width n h) (first-append (frame_cases f ++ (smoothing_cases f.smoothing ++ rows_cases f a n)) ((OverPreviewSize when true) ∷ []))
 
   -- what the preview accepts is within its limits, and the full-size entry accepts it
   pub preview-accepts : number Preview ≡ 0 → (f.width ≤ 1024) × (n ≤ 64) × (number FullSize ≡ 0)

@@ -1,11 +1,12 @@
 -- What an accepted strip call is: it fits, its piece has all that its rows are worked out from, and what it shows of the frame's rows; and how a call keeps the contract. Assumes nothing.
-use mathlib.Core.Path.{◌≡◌, sym, subst, ap}
+use mathlib.Core.Path.{◌≡◌, sym, subst, ap, ◌∙◌}
 use mathlib.Core.Bool.{false}
 use mathlib.Core.List.{List}
 use Prim.Native.Nat.{ℕ, ◌+◌, ◌*◌, ◌-◌, ◌≤◌, ◌<◌, min, max}
 use native.Mathlib.Nat.{add-mul, le_trans, mul-le-mul_right}
 use native.Mathlib.Omega.{arith}
 use lib.IntN.{sub_ℕ}
+use Rattle.std.specs.Prelude.{Result, Ok, Err, IsErrAnd, ⊤}
 use lib.ListN.{length, get_or}
 use Rattle.whole.specs.Parts.{up, down}
 use Rattle.whole.proofs.Pairs.{subₚ, differs}
@@ -18,8 +19,9 @@ use Rattle.bayer.specs.Condition.{frame_cases, FrameFits, smoothing_cases, rows_
 use Rattle.bayer.specs.Lent.{Lent}
 use Rattle.bayer.specs.declared.colour.Colour.TheVariants.{Red, Green, Blue}
 use Rattle.bayer.specs.Planes.{Planes}
-use Rattle.bayer.specs.Refusal.{held_after}
-use Rattle.bayer.proofs.RefusalLaws.{off, off-append, refused-holds}
+use Rattle.bayer.specs.declared.refusal.Refusal.{Refusal}
+use Rattle.bayer.specs.Refusal.{number, answer_number, held_after}
+use Rattle.bayer.proofs.RefusalLaws.{number_positive, off, off-append, refused-holds}
 use Rattle.bayer.proofs.ConditionLaws.{frame-fits, rows_fit, same_number, planes-fit, readings-fit}
 use Rattle.demosaic.proofs.FrameLocal.{in-piece}
 use Rattle.strip_rows.specs.StripRows.{Readable, Sized, Filled}
@@ -91,6 +93,12 @@ module _ (c : Asked) {red green blue : ℕ} (w : Fits c red green blue) where
 
 pub keeps : (c : Asked) (lent : Planes) {answer : ℕ} → answer ≡ strip_number c (length (lent Red)) (length (lent Green)) (length (lent Blue)) → (answer ≡ 0 → ⊥) → Promise c lent answer lent
 keeps c lent e h = record { number = e; red = sym (refused-holds _ _ _ h); green = sym (refused-holds _ _ _ h); blue = sym (refused-holds _ _ _ h) }
+
+-- refused with an `Err`
+pub keeps-refused : (c : Asked) (lent : Planes) (refusal : Refusal) (answer : Result ⊤ Refusal) → IsErrAnd answer (λ r. r ≡ refusal) → number refusal ≡ strip_number c (length (lent Red)) (length (lent Green)) (length (lent Blue))
+    → Promise c lent (answer_number answer) lent
+keeps-refused c lent refusal (Ok done) h e = absurd h
+keeps-refused c lent refusal (Err r) h e = keeps c lent (ap number h ∙ e) (λ z. omega (arith, number_positive r))
 
 pub fills : (c : Asked) (lent after : Planes) {answer : ℕ} → answer ≡ 0 → 0 ≡ strip_number c (length (lent Red)) (length (lent Green)) (length (lent Blue))
     → Filled c.frame c.first c.count c.piece (after Red) (after Green) (after Blue) → Promise c lent answer after

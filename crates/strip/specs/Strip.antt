@@ -5,7 +5,8 @@ use Rattle.bayer.specs.declared.colour.Colour.TheVariants.{Red, Green, Blue}
 use Rattle.bayer.specs.declared.frame.Frame.{Frame}
 use Rattle.bayer.specs.Planes.{Planes}
 use Rattle.bayer.specs.Piece.{piece_start, piece_rows}
-use Rattle.bayer.specs.Refusal.{Case, ◌when◌, wrong_piece_length, wrong_plane_length, over_preview_size, first_of, held_after}
+use Rattle.bayer.specs.declared.refusal.Refusal.TheVariants.{WrongPieceLength, WrongPlaneLength, OverPreviewSize}
+use Rattle.bayer.specs.Refusal.{Case, ◌when◌, first_of, held_after}
 use Rattle.bayer.specs.Condition.{frame_cases, smoothing_cases, rows_cases, planes_misfit, range_cases}
 use Rattle.demosaic.specs.Sample.{plane_rows}
 use Rattle.strip.specs.declared.entry.Entry.{Entry}
@@ -29,7 +30,7 @@ over_preview Preview columns rows = ltb 1024 columns || ltb 64 rows
 
 -- 11
 abbrev pub entry_cases : Entry → (columns rows : ℕ) → List Case
-entry_cases e columns rows = (over_preview_size when over_preview e columns rows) ∷ []
+entry_cases e columns rows = (OverPreviewSize when over_preview e columns rows) ∷ []
 
 -- 1, 2; 10; 3; 11, in the preview only: of what a call names
 abbrev pub named_cases : Entry → Frame → (a n : ℕ) → List Case
@@ -38,8 +39,8 @@ named_cases e f a n = frame_cases f ++ (smoothing_cases f.smoothing ++ (rows_cas
 -- 4, 5: the lengths of the piece, and of the three planes
 abbrev pub length_cases : Frame → (a n : ℕ) (piece : List ℕ) (red green blue : ℕ) → List Case
 length_cases f a n piece red green blue =
-    (wrong_piece_length when not (eqb (length piece) (piece_rows f.height a n * f.width)))
-    ∷ (wrong_plane_length when planes_misfit (n * f.width) red green blue)
+    (WrongPieceLength when not (eqb (length piece) (piece_rows f.height a n * f.width)))
+    ∷ (WrongPlaneLength when planes_misfit (n * f.width) red green blue)
     ∷ []
 
 -- the number of the refusal, the first that holds of what a call names, then 4, 5, then 6. 0: accepted

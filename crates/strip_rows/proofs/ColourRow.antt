@@ -1,16 +1,13 @@
 -- Row v of red or blue, from its readings, its greens and three lists of colour differences. Assumes nothing.
-use Prim.Native.Nat.{ℕ, zero, suc, ◌+◌, ◌-◌, ◌*◌, ◌%◌, ◌≤◌, ◌<◌}
-use mathlib.Core.Path.{◌≡◌, refl, sym, ap, ap₂, ◌∙◌}
+use Prim.Native.Nat.{ℕ, zero, suc, ◌+◌, ◌-◌, ◌%◌, ◌<◌}
+use mathlib.Core.Path.{◌≡◌, refl, sym, ap, ◌∙◌}
 use mathlib.Core.Bool.{Bool, true, false, cond}
 use mathlib.Core.List.{List}
 use native.Mathlib.Omega.{arith}
-use lib.IntN.{ℤ, pos, sub_ℕ, ◌+ℤ◌, ◌-ℤ◌}
-use lib.ListN.{length}
+use lib.IntN.{pos, sub_ℕ, ◌+ℤ◌, ◌-ℤ◌}
 use Rattle.whole.proofs.Pairs.{subₚ, natₚ, ◌+ₚ◌, ◌-ₚ◌, eq-by}
 use Rattle.lists.specs.Part.{row_of}
 use Rattle.lists.specs.Table.{table}
-use Rattle.lists.specs.Bound.{AllAtMost, AllWithin}
-use Rattle.lists.proofs.TableLaws.{length-table}
 use Rattle.bayer.specs.declared.colour.Colour.{Colour}
 use Rattle.bayer.specs.declared.colour.Colour.TheVariants.{Green}
 use Rattle.bayer.specs.declared.frame.Frame.{Frame}
@@ -22,10 +19,10 @@ use Rattle.bayer.proofs.ColourLaws.{partner-shares, same-eq, differ-eq}
 use Rattle.bayer.proofs.MirrorLaws.{mirror-inside}
 use Rattle.bayer.proofs.ParityLaws.{starts-below, place-green}
 use Rattle.green_rule.specs.Greens.{greens, green_row}
-use Rattle.fill_rows.specs.HalfFill.{places, edged, own_edged, other_edged}
+use Rattle.fill_rows.specs.HalfFill.{edged, own_edged, other_edged}
 use Rattle.fill_rows.proofs.HalfFillLaws.{own-mirrors, other-mirrors}
 use Rattle.fill_rows.proofs.FillRowLaws.{own-row-is, other-row-is}
-use Rattle.strip_rows.specs.StripRows.{colour_row, Differences, colour_edged, row_differences}
+use Rattle.strip_rows.specs.StripRows.{colour_row, colour_edged, row_differences}
 
 -- a row that is read above or below row v, for row n − b, starts with green where row v does not
 module _ (f : Frame) (fits : FrameFits f) (v n b : ℕ) where
@@ -85,32 +82,3 @@ module _ (f : Frame) (fits : FrameFits f) (first : ℕ) (rows : List ℕ) (v : �
           → colour_edged f k v (row v) (green v) (row_differences f first rows (mirror f.height (sub_ℕ v 1))) (row_differences f first rows v) (row_differences f first rows (mirror f.height (sub_ℕ (v + 2) 1))) ≡ colour_row f first rows k v
       go true e = rw e (own_is k e)
       go false e = rw e (other-is k e n)
-
--- ---- what `colour_row` hands on, and what it makes
-
-module _ (w : ℕ) (o : ℕ) (o-below : o < 2) (wide : 2 ≤ w) (g : List ℕ) (lg : length g ≡ w) (out : List ℕ) (lo : length out ≡ w) (p q : ℕ) (hp : w ≤ 2 * p) (hq : w ≤ 2 * q) where
-  pub own-ready : (x : List ℕ) (e : List ℤ) → length x ≡ w → AllAtMost 4095 x → Differences w e
-      → ((o < 2) × (2 ≤ length x) × (length g ≡ length x) × (length out ≡ length x) × (length e ≡ places (length x)))
-      × (((AllAtMost 4095 x) × (AllWithin 1048560 e)) × ((length x ≤ 2 * p) × (length x ≤ 2 * q)))
-  own-ready x e lx small h = rw lx ((o-below, wide, lg, lo, h.long), ((small, h.range), (hp, hq)))
-
-  pub other-ready : (a e : List ℤ) → Differences w a → Differences w e
-      → ((o < 2) × (2 ≤ length g) × (length out ≡ length g) × (length a ≡ places (length g)) × (length e ≡ places (length g)))
-      × (((AllWithin 1048560 a) × (AllWithin 1048560 e)) × ((length g ≤ 2 * p) × (length g ≤ 2 * q)))
-  other-ready a e h k = rw lg ((o-below, wide, lo, h.long, k.long), ((h.range, k.range), (hp, hq)))
-
-module _ (f : Frame) (k : Colour) (v : ℕ) (x g : List ℕ) (above own below : List ℤ) where
-  pub own-done : {o : ℕ} {l : List ℕ} → o ≡ starts_green f.layout v → length x ≡ f.width → same k (partner f.layout v) ≡ true → l ≡ table (own_edged o x g own) (length x)
-      → l ≡ colour_edged f k v x g above own below
-  own-done s e t h = rw t (h ∙ ap₂ (λ o n. table (own_edged o x g own) n) s e)
-
-  pub other-done : {o : ℕ} {l : List ℕ} → o ≡ starts_green f.layout v → length g ≡ f.width → same k (partner f.layout v) ≡ false → l ≡ table (other_edged o g above below) (length g)
-      → l ≡ colour_edged f k v x g above own below
-  other-done s e t h = rw t (h ∙ ap₂ (λ o n. table (other_edged o g above below) n) s e)
-
-  pub coloured-length : length (colour_edged f k v x g above own below) ≡ f.width
-  coloured-length = either (same k (partner f.layout v)) _ _
-    where
-      either : (t : Bool) (F G : ℕ → ℕ) → length (cond t (table F f.width) (table G f.width)) ≡ f.width
-      either true F G = length-table _ _
-      either false F G = length-table _ _

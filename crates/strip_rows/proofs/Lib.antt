@@ -1,4 +1,4 @@
 pub mod GreenAmong
 pub mod ColourRow
-pub mod ColourBlock
 pub mod PlanesFromRows
+pub mod ColourBlock

@@ -1,6 +1,6 @@
 -- The rows that are worked out are the planes that the contract names, and the first row of the readings may be named in two ways. Assumes nothing.
 use Prim.Native.Nat.{ℕ, ◌+◌}
-use mathlib.Core.Path.{◌≡◌, refl, sym, subst, ap}
+use mathlib.Core.Path.{◌≡◌, refl, ap}
 use mathlib.Core.List.{List}
 use Rattle.lists.specs.Table.{joined}
 use Rattle.bayer.specs.declared.colour.Colour.{Colour}
@@ -8,7 +8,7 @@ use Rattle.bayer.specs.declared.colour.Colour.TheVariants.{Red, Green, Blue}
 use Rattle.bayer.specs.declared.frame.Frame.{Frame}
 use Rattle.green_rule.specs.Greens.{green_row}
 use Rattle.demosaic.specs.Sample.{sample, plane_rows}
-use Rattle.strip_rows.specs.StripRows.{colour_row, Readable}
+use Rattle.strip_rows.specs.StripRows.{colour_row}
 
 module _ (f : Frame) (first : ℕ) (rows : List ℕ) (a n : ℕ) where
   pub red-plane : joined (λ i. colour_row f first rows Red (a + i)) n ≡ plane_rows f first rows a n Red
@@ -24,8 +24,5 @@ module _ (f : Frame) (first : ℕ) (rows : List ℕ) (a n : ℕ) where
   blue-plane = refl
 
 module _ (f : Frame) {start first : ℕ} (e : start ≡ first) (rows : List ℕ) (a n : ℕ) where
-  pub readable-from : Readable f first rows a n → Readable f start rows a n
-  readable-from r = subst (λ s. Readable f s rows a n) (sym e) r
-
   pub plane-from : (k : Colour) → plane_rows f start rows a n k ≡ plane_rows f first rows a n k
   plane-from k = ap (λ s. plane_rows f s rows a n k) e

@@ -2,8 +2,8 @@
 use Rattle.std.specs.Prelude.{ℕ, ◌+◌, ◌*◌, ◌-◌, ◌≤◌, ◌<◌, ◌≡◌, cond, List, ltb, ℤ, pos, length}
 use Rattle.std.proofs.Math.IntN.{sub_ℕ}
 use Rattle.lists.specs.Table.{table, joined}
-use Rattle.lists.specs.Part.{part, row_of}
-use Rattle.lists.specs.Bound.{AllAtMost, AllWithin}
+use Rattle.lists.specs.Part.{row_of}
+use Rattle.lists.specs.Bound.{AllAtMost}
 use Rattle.bayer.specs.declared.colour.Colour.{Colour}
 use Rattle.bayer.specs.declared.colour.Colour.TheVariants.{Red, Green, Blue}
 use Rattle.bayer.specs.declared.frame.Frame.{Frame}
@@ -16,7 +16,7 @@ use Rattle.bayer.specs.Mosaic.{continued}
 use Rattle.bayer.specs.Lent.{Lent}
 use Rattle.green_rule.specs.Greens.{greens, green_row}
 use Rattle.demosaic.specs.Sample.{other_from, plane_rows}
-use Rattle.fill_rows.specs.HalfFill.{places, edged, own_edged, other_edged}
+use Rattle.fill_rows.specs.HalfFill.{edged, own_edged, other_edged}
 
 -- row v of colour k, red or blue
 abbrev pub colour_row : Frame → (first : ℕ) (rows : List ℕ) → Colour → (v : ℕ) → List ℕ
@@ -44,17 +44,6 @@ pub record GreensOf (f : Frame) (first : ℕ) (rows : List ℕ) (a n : ℕ) (gre
 abbrev pub among_greens : (w a n : ℕ) (green above below : List ℕ) (v : ℕ) → List ℕ
 among_greens w a n green above below v = cond (ltb v a) above (cond (ltb v (a + n)) (row_of w (v - a) green) below)
 
--- the lists of colour differences of a block of up to eight rows, w wide, and of the rows above and below it, and the two half rows of a row have room
-pub record ColourRoom (w differences first second : ℕ) : Type 0 where
-  pub for-differences : 10 * places w ≤ differences
-  pub for-first : w ≤ 2 * first
-  pub for-second : w ≤ 2 * second
-
--- a list of colour differences of a row w wide, of the length and in the range that they have
-pub record Differences (w : ℕ) (e : List ℤ) : Type 0 where
-  pub long : length e ≡ places w
-  pub range : AllWithin 1048560 e
-
 -- rows v to v + b − 1, one to eight of them, are a block of rows a to a + n − 1
 pub record Block (a n v b : ℕ) : Type 0 where
   pub from : a ≤ v
@@ -67,13 +56,6 @@ abbrev pub colour_edged : Frame → Colour → (v : ℕ) (x g : List ℕ) (above
 colour_edged f k v x g above own below =
     let odd = starts_green f.layout v in
     cond (same k (partner f.layout v)) (table (own_edged odd x g own) f.width) (table (other_edged odd g above below) f.width)
-
--- row i of a block, from the block's readings, greens and lists of colour differences, of which list i is that of the row above row i
-abbrev pub colour_row_in : Frame → Colour → (v : ℕ) (x g : List ℕ) (e : List ℤ) (i : ℕ) → List ℕ
-colour_row_in f k v x g e i =
-    let w = f.width in
-    let s = places w in
-    colour_edged f k (v + i) (row_of w i x) (row_of w i g) (part (i * s) s e) (part (i * s + s) s e) (part (i * s + s + s) s e)
 
 -- the colour differences of row u, and list i of a block from row v on, of the row that is read for row v + i − 1
 abbrev pub row_differences : Frame → (first : ℕ) (rows : List ℕ) (u : ℕ) → List ℤ

@@ -1,226 +1,224 @@
-ghost use Rattle.std.specs.Prelude.{◌≡◌, ◌+◌, ◌*◌, ◌≤◌, length};
+ghost use Rattle.std.specs.Prelude.{◌≡◌, ℕ, ◌+◌, ◌-◌, ◌*◌, ◌/◌, ◌≤◌, min, length};
 ghost use Rattle.lists.specs.Table.{joined};
-ghost use Rattle.lists.specs.Bound.{AllAtMost, AllWithin};
+ghost use Rattle.lists.specs.Bound.{AllAtMost};
+ghost use Rattle.bayer.specs.Parity.{starts_green};
 ghost use Rattle.bayer.specs.declared.colour.Colour.TheVariants.{Red, Blue};
 ghost use Rattle.demosaic.specs.Sample.{plane_rows};
 ghost use Rattle.fill_rows.specs.HalfFill.{places};
-ghost use Rattle.strip_rows.specs.StripRows.{colour_row, Readable, GreensOf, ColourRoom, among_greens, Differences, Block, colour_edged, colour_row_in, block_differences};
+ghost use Rattle.strip_rows.specs.StripRows.{colour_row, Readable, GreensOf, among_greens, Block, colour_edged, block_differences};
 
-use bayer::colour::{Colour, partner, same_colour};
+use bayer::colour::{Colour, partner};
 use bayer::frame::Frame;
+use bayer::lent::Piece;
 use bayer::mirror::mirror;
 use bayer::parity::starts_green;
 use fill_rows::edge::edged;
+use fill_rows::row::{Differences, HalfRows, Row};
 use fill_rows::rows::{other_row, own_row};
 use green_blocks::blocks::block_size;
+use std::marker::Model;
 
-// Row v of the greens of rows a to a + n - 1 and of those above and below them.
-fn green_of<'a>(
-    green: &'a [u16],
-    above: &'a [u16],
-    below: &'a [u16],
-    w: usize,
-    a: usize,
-    n: usize,
-    v: usize,
-) -> &'a [u16]
-    requires { (w ≤ 4096) × (a ≤ 4096) × (n ≤ 4096) × (length green.now ≡ n * w) }
-    ensures { result.now ≡ among_greens w a n green.now above.now below.now v }
-{
-    if v < a {
-        return above;
-    }
-    if v < a + n {
-        let at = (v - a) * w;
-        let end = at + w;
-        return &green[at..end];
-    }
-    below
+// Rows first to first + rows - 1 of a frame: the piece of the mosaic that is lent for them, and the greens of these rows and of those above and below them.
+#[derive(Clone, Copy)]
+pub struct Strip<'a> {
+    pub piece: Piece<'a>,
+    pub first: usize,
+    pub rows: usize,
+    pub green: &'a [u16],
+    pub above: &'a [u16],
+    pub below: &'a [u16],
+    pub ghost readable: { Readable piece.frame piece.start piece.readings.now first rows },
+    pub ghost greens: { GreensOf piece.frame piece.start piece.readings.now first rows green.now above.now below.now },
 }
 
-// Row v of colour k, red or blue, from its readings x, its greens g and the colour differences of the row that is read above it, of its own and of the row that is
-// read below it. p and q are room to work in.
+impl<'a> Strip<'a> {
+    // Row v of the greens.
+    fn greens(&self, v: usize) -> &'a [u16]
+        ensures { result.now ≡ among_greens self.now.piece.frame.width self.now.first self.now.rows self.now.green.now self.now.above.now self.now.below.now v }
+    {
+        let w = self.piece.frame.width;
+        if v < self.first {
+            return self.above;
+        }
+        if v < self.first + self.rows {
+            let at = (v - self.first) * w;
+            let end = at + w;
+            return &self.green[at..end];
+        }
+        self.below
+    }
+}
+
+// One to eight rows of a strip.
+#[derive(Clone, Copy)]
+struct Block<'a> {
+    strip: Strip<'a>,
+    first: usize,
+    rows: usize,
+    ghost within: { Block strip.first strip.rows first rows },
+}
+
+// The colour differences of a row, and of the rows that are read above and below it.
+#[derive(Clone, Copy)]
+struct Nearby<'a> {
+    above: Differences<'a>,
+    own: Differences<'a>,
+    below: Differences<'a>,
+}
+
+// Room for red and blue of a block of rows: the lists of colour differences of up to eight rows and of those above and below them, and two half rows. In contracts
+// it is how many columns the rows may have; what it held before does not matter, and what it holds afterwards is not promised.
+#[derive(Drop)]
+pub struct ColourRoom<'a> {
+    pub differences: &'a mut [i32],
+    pub halves: HalfRows<'a>,
+}
+
+impl<'a> Model for ColourRoom<'a> {
+    ghost Value = { ℕ };
+
+    ghost view = { λ r. min (2 * (length r.differences.now / 10 - 2)) r.halves };
+}
+
+// Row v of colour k, red or blue.
+// Seven parameters: the colour and the row vary from call to call, and a struct of them would be made for one call alone: no plainer.
 fn colour_row(
     frame: Frame,
     k: Colour,
     v: usize,
-    x: &[u16],
-    g: &[u16],
-    above: &[i32],
-    own: &[i32],
-    below: &[i32],
-    p: &mut [u16],
-    q: &mut [u16],
+    row: &Row<'_>,
+    nearby: &Nearby<'_>,
+    room: &mut HalfRows<'_>,
     out: &mut [u16],
 )
-    requires le_width { (2 ≤ frame.width) × (length x.now ≡ frame.width) × (length g.now ≡ frame.width) × (length out.old ≡ frame.width) × (AllAtMost 4095 x.now) }
-    requires differences { (Differences frame.width above.now) × (Differences frame.width own.now) × (Differences frame.width below.now) }
-    requires width_bound { (frame.width ≤ 2 * length p.old) × (frame.width ≤ 2 * length q.old) }
-    ensures { out.new ≡ colour_edged frame k v x.now g.now above.now own.now below.now }
+    requires row { (length row.now.readings.now ≡ frame.width) × (row.now.side ≡ starts_green frame.layout v) }
+    requires range { AllAtMost 4095 row.now.readings.now }
+    requires nearby { (nearby.now.above.width ≡ frame.width) × (nearby.now.own.width ≡ frame.width) × (nearby.now.below.width ≡ frame.width) }
+    requires out_len { length out.old ≡ frame.width }
+    requires room { frame.width ≤ room.old }
+    ensures value { out.new ≡ colour_edged frame k v row.now.readings.now row.now.greens.now nearby.now.above.list.now nearby.now.own.list.now nearby.now.below.list.now }
+    ensures room { room.new ≡ room.old }
 {
-    let odd = starts_green(frame.layout, v);
-    let shares = partner(frame.layout, v);
-    if same_colour(k, shares) {
-        own_row(x, g, own, odd, p, q, out);
-        return;
+    if k == partner(frame.layout, v) {
+        own_row(row, &nearby.own, room, out);
+    } else {
+        other_row(row, &nearby.above, &nearby.below, room, out);
     }
-    other_row(g, above, below, odd, p, q, out);
 }
 
-// Red and blue of the b rows from row v on, from their readings x, their greens g and the lists e of colour differences of b + 2 rows: the first is of the row that
-// is read above row v.
+// Red and blue of a block, from the lists of colour differences of its rows and of two more: the first is of the row that is read above the block.
 fn colour_rows(
-    frame: Frame,
-    v: usize,
-    b: usize,
-    x: &[u16],
-    g: &[u16],
-    e: &[i32],
-    p: &mut [u16],
-    q: &mut [u16],
+    block: &Block<'_>,
+    lists: &[i32],
+    room: &mut HalfRows<'_>,
     red: &mut [u16],
     blue: &mut [u16],
 )
-    requires le_width { (2 ≤ frame.width) × (frame.width ≤ 4096) × (v ≤ 4096) × (b ≤ 8) × (AllAtMost 4095 x.now) × (AllWithin 1048560 e.now) }
-    requires x_len { (length x.now ≡ b * frame.width) × (length g.now ≡ b * frame.width) × (length e.now ≡ (b + 2) * places frame.width) × (length red.old ≡ b * frame.width) × (length blue.old ≡ b * frame.width) }
-    requires width_bound { (frame.width ≤ 2 * length p.old) × (frame.width ≤ 2 * length q.old) }
-    ensures red_after { red.new ≡ joined (colour_row_in frame Red v x.now g.now e.now) b }
-    ensures blue_after { blue.new ≡ joined (colour_row_in frame Blue v x.now g.now e.now) b }
+    requires lists { lists.now ≡ joined (block_differences block.now.strip.piece.frame block.now.strip.piece.start block.now.strip.piece.readings.now block.now.first) (block.now.rows + 2) }
+    requires room { block.now.strip.piece.frame.width ≤ room.old }
+    requires planes { (length red.old ≡ block.now.rows * block.now.strip.piece.frame.width) × (length blue.old ≡ block.now.rows * block.now.strip.piece.frame.width) }
+    ensures red_after { red.new ≡ joined (λ i. colour_row block.now.strip.piece.frame block.now.strip.piece.start block.now.strip.piece.readings.now Red (block.now.first + i)) block.now.rows }
+    ensures blue_after { blue.new ≡ joined (λ i. colour_row block.now.strip.piece.frame block.now.strip.piece.start block.now.strip.piece.readings.now Blue (block.now.first + i)) block.now.rows }
+    ensures room { room.new ≡ room.old }
 {
+    let piece = block.strip.piece;
+    let frame = piece.frame;
     let w = frame.width;
     let s = (w + 1) / 2 + 2;
-    let r = Colour::Red;
-    let k = Colour::Blue;
-    let mut i = 0;
-    while i < b {
-        let at = i * w;
-        let end = at + w;
+    for i in 0..block.rows {
+        let v = block.first + i;
+        let row = Row {
+            side: starts_green(frame.layout, v),
+            readings: piece.row(v),
+            greens: block.strip.greens(v),
+        };
         let o = i * s;
         let o1 = o + s;
         let o2 = o1 + s;
         let o3 = o2 + s;
-        let xs = &x[at..end];
-        let gs = &g[at..end];
-        let above = &e[o..o1];
-        let own = &e[o1..o2];
-        let below = &e[o2..o3];
-        let rows = &mut red[at..end];
-        colour_row(frame, r, v + i, xs, gs, above, own, below, p, q, rows);
-        let rows = &mut blue[at..end];
-        colour_row(frame, k, v + i, xs, gs, above, own, below, p, q, rows);
-        i += 1;
-    }
-}
-
-// The colour differences of the rows that rows v to v + b - 1 read: from the one above them to the one below them, by the mirrors at the frame's edges.
-fn block_differences<'a>(
-    frame: Frame,
-    start: usize,
-    piece: &[u16],
-    a: usize,
-    n: usize,
-    green: &'a [u16],
-    above: &'a [u16],
-    below: &'a [u16],
-    v: usize,
-    b: usize,
-    e: &mut [i32],
-)
-    requires readable { (Readable frame start piece.now a n) × (GreensOf frame start piece.now a n green.now above.now below.now) × (Block a n v b) }
-    requires e_len { length e.old ≡ (b + 2) * places frame.width }
-    ensures { e.new ≡ joined (block_differences frame start piece.now v) (b + 2) }
-{
-    let w = frame.width;
-    let h = frame.height;
-    let s = (w + 1) / 2 + 2;
-    let rows = b + 2;
-    let mut i = 0;
-    while i < rows {
-        let y = mirror(h, v + i, 1);
-        let g = green_of(green, above, below, w, a, n, y);
-        let odd = starts_green(frame.layout, y);
-        let at = (y - start) * w;
+        let above = Differences {
+            width: w,
+            list: &lists[o..o1],
+        };
+        let own = Differences {
+            width: w,
+            list: &lists[o1..o2],
+        };
+        let below = Differences {
+            width: w,
+            list: &lists[o2..o3],
+        };
+        let nearby = Nearby { above, own, below };
+        let at = i * w;
         let end = at + w;
-        let o = i * s;
-        let o_end = o + s;
-        edged(&piece[at..end], g, odd, &mut e[o..o_end]);
-        i += 1;
+        let reds = &mut red[at..end];
+        colour_row(frame, Colour::Red, v, &row, &nearby, room, reds);
+        let blues = &mut blue[at..end];
+        colour_row(frame, Colour::Blue, v, &row, &nearby, room, blues);
     }
 }
 
-// Red and blue of rows v to v + b - 1, in as much of the room e as b + 2 lists of colour differences need: each is made once.
-fn colour_block<'a>(
-    frame: Frame,
-    start: usize,
-    piece: &[u16],
-    a: usize,
-    n: usize,
-    green: &'a [u16],
-    above: &'a [u16],
-    below: &'a [u16],
-    v: usize,
-    b: usize,
-    e: &mut [i32],
-    p: &mut [u16],
-    q: &mut [u16],
-    red: &mut [u16],
-    blue: &mut [u16],
-)
-    requires readable { (Readable frame start piece.now a n) × (GreensOf frame start piece.now a n green.now above.now below.now) × (Block a n v b) }
-    requires colour_room { (ColourRoom frame.width (length e.old) (length p.old) (length q.old)) × (length red.old ≡ b * frame.width) × (length blue.old ≡ b * frame.width) }
-    ensures red_after { red.new ≡ joined (λ i. colour_row frame start piece.now Red (v + i)) b }
-    ensures blue_after { blue.new ≡ joined (λ i. colour_row frame start piece.now Blue (v + i)) b }
+// The colour differences of the rows that a block's rows read: from the one above them to the one below them, by the mirrors at the frame's edges.
+fn block_differences(block: &Block<'_>, lists: &mut [i32])
+    requires { length lists.old ≡ (block.now.rows + 2) * places block.now.strip.piece.frame.width }
+    ensures { lists.new ≡ joined (block_differences block.now.strip.piece.frame block.now.strip.piece.start block.now.strip.piece.readings.now block.now.first) (block.now.rows + 2) }
 {
-    let w = frame.width;
-    let m = b * w;
-    let es = (b + 2) * ((w + 1) / 2 + 2);
-    let x = (v - start) * w;
-    let x_end = x + m;
-    let at = (v - a) * w;
-    let end = at + m;
-    let lists = &mut e[0..es];
-    block_differences(frame, start, piece, a, n, green, above, below, v, b, lists);
-    let xs = &piece[x..x_end];
-    let gs = &green[at..end];
-    colour_rows(frame, v, b, xs, gs, &e[0..es], p, q, red, blue);
+    let piece = block.strip.piece;
+    let frame = piece.frame;
+    let s = (frame.width + 1) / 2 + 2;
+    for i in 0..block.rows + 2 {
+        let y = mirror(frame.height, block.first + i, 1);
+        let row = Row {
+            side: starts_green(frame.layout, y),
+            readings: piece.row(y),
+            greens: block.strip.greens(y),
+        };
+        let at = i * s;
+        let end = at + s;
+        edged(&row, &mut lists[at..end]);
+    }
 }
 
-// The red and the blue plane, rows a to a + n - 1, from the greens of these rows, above them and below them, block after block. e, p and q are room to work in.
-pub fn colour_planes<'a>(
-    frame: Frame,
-    start: usize,
-    piece: &[u16],
-    a: usize,
-    n: usize,
-    green: &'a [u16],
-    above: &'a [u16],
-    below: &'a [u16],
-    e: &mut [i32],
-    p: &mut [u16],
-    q: &mut [u16],
+// Red and blue of a block, in as much of the room as its lists of colour differences need: each is made once.
+fn colour_block(block: &Block<'_>, room: &mut ColourRoom<'_>, red: &mut [u16], blue: &mut [u16])
+    requires room { block.now.strip.piece.frame.width ≤ room.old }
+    requires planes { (length red.old ≡ block.now.rows * block.now.strip.piece.frame.width) × (length blue.old ≡ block.now.rows * block.now.strip.piece.frame.width) }
+    ensures red_after { red.new ≡ joined (λ i. colour_row block.now.strip.piece.frame block.now.strip.piece.start block.now.strip.piece.readings.now Red (block.now.first + i)) block.now.rows }
+    ensures blue_after { blue.new ≡ joined (λ i. colour_row block.now.strip.piece.frame block.now.strip.piece.start block.now.strip.piece.readings.now Blue (block.now.first + i)) block.now.rows }
+    ensures room { room.new ≡ room.old }
+{
+    let end = (block.rows + 2) * ((block.strip.piece.frame.width + 1) / 2 + 2);
+    let lists = &mut room.differences[0..end];
+    block_differences(block, lists);
+    colour_rows(block, lists, &mut room.halves, red, blue);
+}
+
+// The red and the blue plane of a strip, block after block.
+pub fn colour_planes(
+    strip: &Strip<'_>,
+    room: &mut ColourRoom<'_>,
     red: &mut [u16],
     blue: &mut [u16],
 )
-    requires readable { (Readable frame start piece.now a n)
-        × (GreensOf frame start piece.now a n green.now above.now below.now)
-        × (length red.old ≡ n * frame.width)
-        × (length blue.old ≡ n * frame.width) }
-    requires colour_room { ColourRoom frame.width (length e.old) (length p.old) (length q.old) }
-    ensures red_after { red.new ≡ plane_rows frame start piece.now a n Red }
-    ensures blue_after { blue.new ≡ plane_rows frame start piece.now a n Blue }
+    requires room { strip.now.piece.frame.width ≤ room.old }
+    requires planes { (length red.old ≡ strip.now.rows * strip.now.piece.frame.width) × (length blue.old ≡ strip.now.rows * strip.now.piece.frame.width) }
+    ensures red_after { red.new ≡ plane_rows strip.now.piece.frame strip.now.piece.start strip.now.piece.readings.now strip.now.first strip.now.rows Red }
+    ensures blue_after { blue.new ≡ plane_rows strip.now.piece.frame strip.now.piece.start strip.now.piece.readings.now strip.now.first strip.now.rows Blue }
+    ensures room { room.new ≡ room.old }
 {
-    let w = frame.width;
-    let mut i = 0;
-    while i < n {
-        let b = block_size(n - i);
+    let w = strip.piece.frame.width;
+    for k in 0..strip.rows.div_ceil(8) {
+        let i = 8 * k;
+        let b = block_size(strip.rows - i);
+        let block = Block {
+            strip: *strip,
+            first: strip.first + i,
+            rows: b,
+        };
         let at = i * w;
         let end = at + b * w;
-        let v = a + i;
-        let rs = &mut red[at..end];
-        let bs = &mut blue[at..end];
-        colour_block(
-            frame, start, piece, a, n, green, above, below, v, b, e, p, q, rs, bs,
-        );
-        i += b;
+        let reds = &mut red[at..end];
+        let blues = &mut blue[at..end];
+        colour_block(&block, room, reds, blues);
     }
 }

@@ -2,6 +2,5 @@
 #![tactic(auto)]
 
 pub mod colours;
-pub mod fill;
 pub mod greens;
 pub mod rooms;

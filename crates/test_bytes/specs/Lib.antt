@@ -1,1 +1,2 @@
 pub mod TestBytes
+pub mod LongInput

@@ -3,7 +3,8 @@ use Rattle.std.specs.Prelude.{ℕ, ◌*◌, not, List, [], ◌∷◌, ◌++◌, 
 use Rattle.frame_bytes.specs.FrameBytes.{big_endian, frame_at}
 use Rattle.bayer.specs.declared.frame.Frame.{Frame}
 use Rattle.bayer.specs.Condition.{frame_cases}
-use Rattle.bayer.specs.Refusal.{Case, ◌when◌, malformed_file, first_of}
+use Rattle.bayer.specs.declared.refusal.Refusal.TheVariants.{MalformedFile}
+use Rattle.bayer.specs.Refusal.{Case, ◌when◌, first_of}
 use Rattle.frame_text.specs.FrameText.{frame_text}
 use Rattle.test_frames.specs.TestFrame.{test_frame}
 
@@ -19,7 +20,7 @@ readings bytes = test_frame (seed_of bytes) (frame_of bytes).width (frame_of byt
 
 -- 8: W × H is above 4096
 abbrev pub large_cases : Frame → List Case
-large_cases f = (malformed_file when ltb 4096 (f.width * f.height)) ∷ []
+large_cases f = (MalformedFile when ltb 4096 (f.width * f.height)) ∷ []
 
 -- of the frame that is named: 1, 2; then 8, if it is too large
 abbrev pub named_cases : Frame → List Case
@@ -27,7 +28,7 @@ named_cases f = frame_cases f ++ large_cases f
 
 -- the program's number: 8, if there are not exactly nine bytes; then the cases of the frame. 0 where none holds
 unfoldable pub bytes_number : (bytes : List ℕ) → ℕ
-bytes_number bytes = first_of ((malformed_file when not (eqb (length bytes) 9)) ∷ named_cases (frame_of bytes))
+bytes_number bytes = first_of ((MalformedFile when not (eqb (length bytes) 9)) ∷ named_cases (frame_of bytes))
 
 -- WHAT THE PROGRAM PRINTS, for any bytes
 unfoldable pub output : (bytes : List ℕ) → List ℕ

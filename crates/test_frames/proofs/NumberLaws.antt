@@ -6,7 +6,8 @@ use mathlib.Core.List.{◌∷◌}
 use borrow.Author.Tests.{ltb-true, not-false, eq-eqb}
 use lib.Dec.{ltb}
 use Rattle.bayer.specs.Condition.{size_cases, misfit_cases}
-use Rattle.bayer.specs.Refusal.{◌when◌, rows_outside_frame, first_of}
+use Rattle.bayer.specs.declared.refusal.Refusal.TheVariants.{RowsOutsideFrame}
+use Rattle.bayer.specs.Refusal.{◌when◌, first_of}
 use Rattle.bayer.proofs.RefusalLaws.{off, on, off-append, on-append}
 use Rattle.bayer.proofs.ConditionLaws.{sizes-fit, same_number}
 use Rattle.test_frames.specs.TestFrame.{walk_number, row_number}
@@ -28,7 +29,7 @@ pub record RowFits (W H row lent : ℕ) : Type 0 where
 pub row_fits : (W H row lent : ℕ) → row_number W H row lent ≡ 0 → RowFits W H row lent
 unfolding row_number
 row_fits W H row lent e =
-    let cases = (rows_outside_frame when not (ltb row H)) ∷ misfit_cases W lent in
+    let cases = (RowsOutsideFrame when not (ltb row H)) ∷ misfit_cases W lent in
     let o = off-append (size_cases W H) cases e in
     let s = sizes-fit W H o.0 in
     let p = off cases o.1 in

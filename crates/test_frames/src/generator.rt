@@ -5,17 +5,12 @@ pub const MULTIPLIER: u32 = 1664525;
 
 pub const INCREMENT: u32 = 1013904223;
 
-fn wide(x: u32) -> u64
-    ensures { result ≡ x }
-{
-    x as u64
-}
-
-// a x + c, modulo 2^32. In 64 bits it does not wrap.
+// a x + c, modulo 2^32.
+#[tactic(auto, unfolding(crate::specs::Generator::affine))]
 pub fn affine(a: u32, c: u32, x: u32) -> u32
     ensures { result ≡ affine a c x }
 {
-    ((wide(a) * wide(x) + wide(c)) % 4294967296) as u32
+    a.wrapping_mul(x).wrapping_add(c)
 }
 
 // The next state.

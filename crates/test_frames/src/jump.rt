@@ -8,13 +8,11 @@ use crate::generator::{INCREMENT, MULTIPLIER, affine};
 fn odd_move(r: u64, a: u32, c: u32, x: u32) -> u32
     ensures { result ≡ odd_move r a c x }
 {
-    if r % 2 == 1 {
-        return affine(a, c, x);
-    }
-    x
+    if r % 2 == 1 { affine(a, c, x) } else { x }
 }
 
 // The state after r steps. Each turn halves what is left of r, and doubles the steps that a x + c makes: 64 turns at most.
+// A `for` over 64 bits would need r's next bit of a position, and would go on where no step is left.
 pub fn jump(state: u32, r: u64) -> u32
     ensures { (result ≡ state_after state r) × (result ≡ jumped state r) }
 {
@@ -26,7 +24,7 @@ pub fn jump(state: u32, r: u64) -> u32
         x = odd_move(left, a, c, x);
         c = affine(a, c, c);
         a = affine(a, 0, a);
-        left = left / 2;
+        left /= 2;
     }
     x
 }

@@ -1,4 +1,4 @@
-// The small program of test frames again. rt ci runs it on nine bytes that name a frame, and a tenth.
+// The small program of test frames again, as a program has one input under the gate: rt ci runs it on nine bytes that name a frame, and a tenth.
 #![tactic(auto)]
 
 use std::io;

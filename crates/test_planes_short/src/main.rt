@@ -1,4 +1,4 @@
-// The small program of test frames again. rt ci runs it on nine bytes that name a frame, without the last.
+// The small program of test frames again, as a program has one input under the gate: rt ci runs it on nine bytes that name a frame, without the last.
 #![tactic(auto)]
 
 use std::io;

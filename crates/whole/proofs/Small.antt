@@ -1,5 +1,5 @@
--- Signed code whose ranges and values `search` finds: sums, differences and natural multiples (the literal first) of literals that are not below 0 and of u16 values,
--- cast to a wider signed type. The proof does not repeat the code's expressions. For values with other bounds: proofs/Signed.
+-- Signed code whose ranges and values `search` finds: sums, differences and natural multiples (the literal first) of literals that are not below 0 and of u16 values
+-- that are widened to a signed type. The proof does not repeat the code's expressions. For values with other bounds: proofs/Signed.
 --     Small k z                z, as a goal shows it, is an integer within k, given as a pair of naturals
 --     search small depth n     finds it along z, and proves what an operation asks; each operation of the code takes two of the depth.
 --                              Ten operations in one value are found; at eleven `search` broke off, at its bound of steps
@@ -39,6 +39,10 @@ small-u16 w k n f e h =
       within = omega (arith, ltb-true 65534 k e);
     }
 
+-- one that `i32::from` widened
+abbrev pub small-from : (k n : ℕ) (z : ℤ) → z ≡ pos n → Fits w16 n → ltb 65534 k ≡ true → Small k z
+small-from k n z p f e = record { value = pos n; pair = natₚ n; is = p; within = omega (arith, ltb-true 65534 k e) }
+
 -- a sum or a difference of two that are within half the bound
 abbrev of-halves : (k : ℕ) (o : ℤ → ℤ → ℤ) {x y : ℤ} (a : Small (k / 2) x) (b : Small (k / 2) y) → let v = o a.value b.value in Pair v → nat_abs v ≤ k / 2 + k / 2 → Small k (o x y)
 of-halves k o a b p h = record { value = o a.value b.value; pair = p; is = ap₂ o a.is b.is; within = le_trans h (omega arith) }
@@ -73,7 +77,7 @@ pub small-fits : (w : Width) (z : ℤ) → Small (2 ^ hbits w - 1) z → SFits w
 small-fits w z a = rw a.is (fits-within a.value a.within (omega (arith, one-le-pow (hbits w) 2 (omega arith))))
 
 -- a difference is a sum too, so its law comes before the sum's
-pub ruleset small = (small-literal, small-u16, small-difference, small-sum, small-multiple, small-read, small-fits)
+pub ruleset small = (small-literal, small-u16, small-difference, small-sum, small-multiple, small-read, small-from, small-fits)
 
 pub equal : {k : ℕ} {z y : ℤ} (s : Small k z) (q : Pair y) → s.pair.hi + q.lo ≡ q.hi + s.pair.lo → z ≡ y
 equal s q e = s.is ∙ eq-by s.pair q e

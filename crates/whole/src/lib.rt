@@ -8,11 +8,5 @@ ghost use Rattle.whole.specs.Clamp.{clamp};
 pub fn clamp(x: i32) -> u16
     ensures { result ≡ clamp x }
 {
-    if x < 0 {
-        0
-    } else if 65520 < x {
-        65520
-    } else {
-        x as u16
-    }
+    x.clamp(0, 65520) as u16
 }

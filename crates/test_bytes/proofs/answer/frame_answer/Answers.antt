@@ -1,23 +1,29 @@
--- The walk is accepted. Assumes nothing.
-use Rattle.std.proofs.Common.{◌≡◌, ◌∙◌, sym, ap, arith}
-use Rattle.bayer.proofs.RefusalLaws.{delivers}
-use Rattle.bayer.specs.declared.frame.Frame.{Frame}
-use Rattle.frame_text.specs.FrameText.{frame_text, whole_number}
-use Rattle.test_frames.specs.TestFrame.{test_frame}
+-- A frame that is not refused is walked, and its walk printed. Assumes nothing.
+use Rattle.std.proofs.Common.{◌∙◌, sym, refl, arith, rules}
+use Rattle.bayer.proofs.RefusalLaws.{delivers, number_positive}
 use Rattle.test_frames.proofs.NumberLaws.{walk-passes}
-use Rattle.test_bytes.proofs.OutputLaws.{named-fits, strip-accepts}
+use Rattle.test_bytes.proofs.OutputLaws.{named-fits, accepted_text}
 use Rattle.test_bytes.proofs.answer.frame_answer.Goals as goal
 
-pub put_frame-requires : goal.put_frame-requires
-put_frame-requires c = (omega arith, omega (arith, (named-fits c.args.frame c.requires.0).1), omega arith)
+pub overflow_mul-size : goal.overflow_mul-size
+overflow_mul-size c = let h = named-fits c.args.frame (sym c.in_ok-named_check.ensures) in search rules
 
-pub returns : goal.returns
-returns c =
-    let f : Frame = c.args.frame in
-    let walked : c.test_frame.new.frame ≡ test_frame c.args.seed f.width f.height =
-    delivers c.test_frame.ensures (c.test_frame.ensures.answered ∙ walk-passes f.width f.height _ (named-fits f c.requires.0).0 c.requires.2)
-    in
-    let e : frame_text 0 f (test_frame c.args.seed f.width f.height) ≡ frame_text (whole_number f c.test_frame.new.frame) f c.test_frame.new.frame =
-    ap (λ n. frame_text n f (test_frame c.args.seed f.width f.height)) (sym (strip-accepts f c.args.seed c.requires.0 c.requires.1)) ∙ ap (λ r. frame_text (whole_number f r) f r) (sym walked)
-    in
-    (rw e c.put_frame.ensures.0, omega arith)
+pub slice_bounds-mosaic-end : goal.slice_bounds-mosaic-end
+slice_bounds-mosaic-end c = let h = named-fits c.args.frame (sym c.in_ok-named_check.ensures) in search rules
+
+pub slice_bounds-readings-end : goal.slice_bounds-readings-end
+slice_bounds-readings-end c = let h = named-fits c.args.frame (sym c.in_ok-named_check.ensures) in search rules
+
+pub text_of_frame-requires-clause-whole : goal.text_of_frame-requires-clause-whole
+text_of_frame-requires-clause-whole c = let h = named-fits c.args.frame (sym c.in_ok-named_check.ensures) in search rules
+
+-- a walk of such a frame is not refused
+pub returns-in_err-test_frame-clause-refused : goal.returns-in_err-test_frame-clause-refused
+returns-in_err-test_frame-clause-refused c =
+    let h = named-fits c.args.frame (sym c.in_ok-named_check.ensures) in
+    let none = c.in_err-test_frame.ensures.answered ∙ walk-passes c.args.frame.width c.args.frame.height _ h.0 (search rules) in
+    absurd (omega (arith, none, number_positive c.in_err-test_frame.field-0.0))
+
+pub returns-clause-accepted : goal.returns-clause-accepted
+returns-clause-accepted c =
+    c.text_of_frame.ensures ∙ accepted_text c.args.frame c.args.seed (sym c.in_ok-named_check.ensures) c.requires (delivers c.in_ok-test_frame.ensures refl)

@@ -1,0 +1,8 @@
+use Rattle.std.proofs.Common.{arith}
+use Rattle.std.proofs.lemmas.Int.{ints}
+use Rattle.blend.specs.Blend.{axis}
+use Rattle.blend.proofs.axis.variation.Goals as goal
+
+pub returns : goal.returns
+unfolding axis
+returns c = omega (arith, ints)

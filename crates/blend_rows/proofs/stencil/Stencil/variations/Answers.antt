@@ -1,0 +1,6 @@
+use Rattle.std.proofs.Common.{arith}
+use Rattle.lists.proofs.TableLaws.{table_of_entries}
+use Rattle.blend_rows.proofs.stencil.Stencil.variations.Goals as goal
+
+pub returns : goal.returns
+returns c = table_of_entries 0 (omega arith) (λ j h. c.loop-k.invariant j (omega arith))

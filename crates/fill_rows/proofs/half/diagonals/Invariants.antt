@@ -1,0 +1,7 @@
+-- The samples so far. Assumes nothing.
+use Rattle.std.proofs.Common.{◌≡◌, ◌<◌, ℕ, get_or}
+use Rattle.fill_rows.specs.HalfFill.{diagonal_in}
+use Rattle.fill_rows.proofs.half.diagonals.Given as goal
+
+abbrev pub invariant-loop-k : goal.invariant-loop-k
+invariant-loop-k l = (j : ℕ) → j < l.k → get_or l.out j 0 ≡ diagonal_in l.g l.a l.b j

@@ -1,0 +1,39 @@
+// What green of a row is worked out from, and the room that it is worked out in.
+ghost use Rattle.green_row.specs.Buffers.{InRange};
+
+use std::marker::Model;
+
+// The buffers around the rows that green is worked out for, whose rows are `stride` places wide, as green_blocks/specs/Block draws them: differences along rows and
+// along columns, gradients along rows, and direction sums along columns.
+#[derive(Clone, Copy)]
+pub struct Buffers<'a> {
+    pub stride: usize,
+    pub dh: &'a [i16],
+    pub dv: &'a [i16],
+    pub gh: &'a [u16],
+    pub tv: &'a [u32],
+    pub ghost in_range: { InRange dh.now dv.now gh.now tv.now },
+}
+
+// Room for direction sums, five-sums, what fusion adds and two half rows. A contract sees it as the number of columns that a row may have in it: what it held before
+// does not matter, and what it holds afterwards is not promised.
+#[derive(Drop)]
+pub struct RowRoom<'a> {
+    pub columns: usize,
+    pub sums: &'a mut [u32],
+    pub fives: &'a mut [i32],
+    pub added: &'a mut [i32],
+    pub half: &'a mut [u16],
+    pub other_half: &'a mut [u16],
+}
+
+impl<'a> Model for RowRoom<'a> {
+    ghost use Rattle.std.specs.Prelude.{ℕ, length};
+    ghost use Rattle.green_row.specs.Buffers.{RowRoomFor};
+
+    ghost Value = { ℕ };
+
+    ghost view = { λ r. r.columns };
+
+    ghost invariant = { λ r. RowRoomFor r.columns (length r.sums.now) (length r.fives.now) (length r.added.now) (length r.half.now) (length r.other_half.now) };
+}

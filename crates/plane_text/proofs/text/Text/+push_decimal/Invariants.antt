@@ -1,0 +1,5 @@
+-- n falls. Assumes nothing.
+use Rattle.plane_text.proofs.text.Text.+push_decimal.Given as goal
+
+abbrev pub decreases-push_decimal : goal.decreases-push_decimal
+decreases-push_decimal l = l.n
