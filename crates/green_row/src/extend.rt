@@ -14,6 +14,16 @@ fn edge(row: &[u16], from: usize, out: &mut [u16])
     }
 }
 
+// A loop, as the library's `copy_from_slice` would have the archive for C ask for `memmove`.
+fn copy(row: &[u16], out: &mut [u16])
+    requires { length out.old ≡ length row.now }
+    ensures { out.new ≡ row.now }
+{
+    for (k, reading) in out.iter_mut().enumerate() {
+        *reading = row[k];
+    }
+}
+
 // Columns -7, -6, .. of a row of the continued mosaic.
 pub fn extend(row: &[u16], out: &mut [u16])
     requires in_bounds { (2 ≤ length row.now) × (length row.now ≤ 4096) }
@@ -23,6 +33,6 @@ pub fn extend(row: &[u16], out: &mut [u16])
     let w = row.len();
     let end = w + 7;
     edge(row, 0, &mut out[0..7]);
-    out[7..end].copy_from_slice(row);
+    copy(row, &mut out[7..end]);
     edge(row, end, &mut out[end..]);
 }

@@ -4,4 +4,4 @@ use Rattle.green_row.proofs.ExtendedLaws.{from_parts}
 use Rattle.green_row.proofs.extend.extend.Goals as goal
 
 pub returns : goal.returns
-returns c = from_parts c.args.row.now c.args.out.now (omega arith) (omega arith) (omega arith) c.edge.ensures c.copy_from_slice.ensures.after c.edge-2.ensures
+returns c = from_parts c.args.row.now c.args.out.now (omega arith) (omega arith) (omega arith) c.edge.ensures c.copy.ensures c.edge-2.ensures
