@@ -18,6 +18,7 @@ use Rattle.lists.proofs.PartLaws.{first_part, rest_part, other-part, get_or_part
 use Rattle.lists.proofs.BoundLaws.{all-part, all-parts}
 use Rattle.bayer.specs.declared.frame.Frame.{Frame}
 use Rattle.bayer.specs.Mirror.{mirror}
+use Rattle.bayer.specs.Mosaic.{continued}
 use Rattle.bayer.specs.Parity.{starts_green}
 use Rattle.bayer.specs.Lent.{Lent}
 use Rattle.bayer.proofs.LentLaws.{row_inside}
@@ -25,8 +26,7 @@ use Rattle.bayer.proofs.ParityLaws.{starts-next}
 use Rattle.gbtf.specs.Bounds.{most_difference, most_sum}
 use Rattle.gbtf.specs.Difference.{difference, plain_gradient}
 use Rattle.gbtf.specs.Direction.{direction_sum}
-use Rattle.gbtf.specs.Weights.{scale, weights_of}
-use Rattle.green_rule.specs.Greens.{greens, green_row}
+use Rattle.gbtf.specs.GreenAt.{green_at}
 use Rattle.green_row.specs.Buffers.{InRange}
 use Rattle.green_row.specs.AlongAxis.{difference_in, plain_gradient_in, gradient_in, Apart}
 use Rattle.green_row.specs.Directions.{three_in, window_in}
@@ -34,7 +34,7 @@ use Rattle.green_row.specs.GreenIn.{green_in}
 use Rattle.green_row.specs.Extended.{column, extended_row}
 use Rattle.green_row.proofs.BufferBounds.{extended-at-most, differences-within, differences-apart-in, gradients-at-most, window-at-most}
 use Rattle.green_row.proofs.GreenRow.{RowBuffers, row-fused}
-use Rattle.green_blocks.specs.Block.{AroundBlock, column_sums, fused_row_in}
+use Rattle.green_blocks.specs.Block.{AroundBlock, column_sums, green_row_in}
 
 -- the same readings give the same difference, at place k of x and place j of y
 difference-same : (step : ℕ) (x y : List ℕ) (k j : ℕ) → ((e : ℕ) → e ≤ 4 → get_or x (k + e * step) 0 ≡ get_or y (j + e * step) 0) → difference_in step x k ≡ difference_in step y j
@@ -236,19 +236,16 @@ module _ {f : Frame} {first : ℕ} {rows : List ℕ} {v b s : ℕ} {x : List ℕ
   abbrev own : List ℕ
   own = drop at rows
 
-  pub block-fused : {tv : List ℕ} → Columns tv → {out : List ℕ}
-      → out ≡ joined (fused_row_in f first rows v (take (m + 2 * s - 0) d) (take (length d - (m + 2 * s)) (drop (m + 2 * s) d)) (take (m + 2 * s - 4 - 0) g) tv) b
-      → out ≡ joined (λ i. green_row f first rows (v + i)) b
-  unfolding greens
-  block-fused {tv} tv-is e =
-      let K : ℕ = scale in
-      let ws : List ℕ = weights_of f.smoothing in
+  pub block-fused : {tv : List ℕ} → Columns tv → (K : ℕ) (ws : List ℕ) {out : List ℕ}
+      → out ≡ joined (green_row_in K ws f.width o own (take (m + 2 * s - 0) d) (take (length d - (m + 2 * s)) (drop (m + 2 * s) d)) (take (m + 2 * s - 4 - 0) g) tv) b
+      → out ≡ joined (λ i. table (λ j. green_at ws (continued f first rows) (pos (v + i)) (pos j) K) f.width) b
+  block-fused {tv} tv-is K ws e =
       e
       ∙ rw (dh-part, dv-part, gh-part)
       (joined_same _ _ b (λ i k. ap (λ p. row_by p i (row_of f.width i own)) (sym z.wide) ∙ ap (row_by s i) (own_row f.width first v i rows (rw add-zero at (row_inside (z.lent 0 z.some)).0)) ∙ row-fused (buffers tv-is i k) K ws))
     where
       row_by : (s i : ℕ) → List ℕ → List ℕ
-      row_by s i l = table (green_in scale (weights_of f.smoothing) s ((o + i) % 2) l (part (i * s) (3 * s) dh) (part (i * s) (9 * s) dv) (part (i * s) (3 * s - 4) gh) (part (i * h) (3 * h) tv)) f.width
+      row_by s i l = table (green_in K ws s ((o + i) % 2) l (part (i * s) (3 * s) dh) (part (i * s) (9 * s) dv) (part (i * s) (3 * s - 4) gh) (part (i * h) (3 * h) tv)) f.width
 
   -- ---- what `fuse_rows` requires
   module _ (small : AllAtMost 4095 rows) where

@@ -1,5 +1,15 @@
 -- The room that green is worked out in, block after block. Assumes nothing.
 use Rattle.std.specs.Prelude.{ℕ, ◌+◌, ◌*◌, ◌/◌, ◌≤◌, ◌≡◌}
+use Rattle.green_row.specs.Buffers.{RowSizes}
+
+-- how many columns it suffices for, and how long its parts are
+pub record RoomSizes : Type 0 where
+  pub columns : ℕ
+  pub readings : ℕ
+  pub differences : ℕ
+  pub gradients : ℕ
+  pub column_sums : ℕ
+  pub row : RowSizes
 
 -- lengths that suffice for blocks of up to eight rows, w columns wide, beside room for rows of as many columns
 pub record Room (w readings differences gradients column-sums row : ℕ) : Type 0 where

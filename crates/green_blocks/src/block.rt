@@ -88,7 +88,7 @@ fn around_row<'a>(buffers: &Buffers<'a>, h: usize, i: usize) -> Buffers<'a>
 fn fuse_rows(block: &Block<'_>, buffers: &Buffers<'_>, room: &mut RowRoom<'_>, out: &mut [u16])
     requires range { AllAtMost 4095 block.now.piece.readings.now }
     requires around { AroundBlock block.now.piece.frame.width block.now.rows buffers.now.stride (length buffers.now.dh.now) (length buffers.now.dv.now) (length buffers.now.gh.now) (length buffers.now.tv.now) }
-    requires room_for_frame { block.now.piece.frame.width ≤ room.old }
+    requires room_for_frame { block.now.piece.frame.width ≤ room.old.columns }
     requires out_len { length out.old ≡ block.now.rows * block.now.piece.frame.width }
     ensures value { out.new ≡ joined (fused_row_in block.now.piece.frame block.now.piece.start block.now.piece.readings.now block.now.first buffers.now.dh.now buffers.now.dv.now buffers.now.gh.now buffers.now.tv.now) block.now.rows }
     ensures same_room { room.new ≡ room.old }
@@ -120,7 +120,7 @@ pub fn green_block(
 )
     requires range { AllAtMost 4095 block.now.piece.readings.now }
     requires long { BlockLong block.now.piece.frame.width block.now.rows (length x.old) (length d.old) (length g.old) (length tv.old) }
-    requires room_for_frame { block.now.piece.frame.width ≤ room.old }
+    requires room_for_frame { block.now.piece.frame.width ≤ room.old.columns }
     requires out_len { length out.old ≡ block.now.rows * block.now.piece.frame.width }
     ensures value { out.new ≡ joined (λ i. green_row block.now.piece.frame block.now.piece.start block.now.piece.readings.now (block.now.first + i)) block.now.rows }
     ensures same_room { room.new ≡ room.old }

@@ -19,7 +19,7 @@ pub fn block_size(n: usize) -> usize
 // Green of a block's rows, in as much of the room as they need.
 fn green_block_in(block: &Block<'_>, room: &mut Room<'_>, out: &mut [u16])
     requires range { AllAtMost 4095 block.now.piece.readings.now }
-    requires room_for_frame { block.now.piece.frame.width ≤ room.old }
+    requires room_for_frame { block.now.piece.frame.width ≤ room.old.columns }
     requires out_len { length out.old ≡ block.now.rows * block.now.piece.frame.width }
     ensures value { out.new ≡ joined (λ i. green_row block.now.piece.frame block.now.piece.start block.now.piece.readings.now (block.now.first + i)) block.now.rows }
     ensures same_room { room.new ≡ room.old }
@@ -47,7 +47,7 @@ pub fn green_rows(piece: &Piece<'_>, a: usize, n: usize, room: &mut Room<'_>, ou
     requires by_index { (i : ℕ) → i < n → Lent piece.now.frame piece.now.start (length piece.now.readings.now) (a + i) }
     requires at_most { AllAtMost 4095 piece.now.readings.now }
     requires n_bound { (n ≤ 4096) × (a ≤ 4096) × (piece.now.frame.width ≤ 4096) }
-    requires room_for_frame { piece.now.frame.width ≤ room.old }
+    requires room_for_frame { piece.now.frame.width ≤ room.old.columns }
     requires out_len { length out.old ≡ n * piece.now.frame.width }
     ensures value { out.new ≡ joined (λ i. green_row piece.now.frame piece.now.start piece.now.readings.now (a + i)) n }
     ensures same_room { room.new ≡ room.old }

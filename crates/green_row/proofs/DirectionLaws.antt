@@ -101,18 +101,19 @@ module _ (ws : List ℕ) (s odd n : ℕ) (dh dv : List ℤ) (gh : List ℕ) wher
     direction-at i (suc (suc zero)) l = ap₂ direction (get_or-parts five_at n 4 2 i (pos 0) (lit≤ tt) l) (let e : i ≡ (2 * i + odd) / 2 = omega arith in ap (λ p. get_or tv p 0) e)
     direction-at i (suc (suc (suc k))) l = ap₂ direction (get_or-parts five_at n 4 3 i (pos 0) (lit≤ tt) l) (let e : i ≡ (2 * i + odd) / 2 = omega arith in ap (λ p. get_or tv (2 * h + p) 0) e)
 
-    -- what fusion adds at each of them, for the rules' own share scale, and that from the lists and the total that are these
-    abbrev pub added : List ℤ
-    added = table (λ i. fused_by scale (total ws) (direction_in ws s h dh dv gh tv (2 * i + odd))) n
+    -- what fusion adds at each of them, for a share scale K
+    abbrev pub added : (K : ℕ) → List ℤ
+    added K = table (λ i. fused_by K (total ws) (direction_in ws s h dh dv gh tv (2 * i + odd))) n
 
+    -- and that from the lists and the total that are these
+    pub added-is : (K : ℕ) {T : ℕ} {t : List ℕ} {f r : List ℤ} → T ≡ total ws → t ≡ sums → f ≡ fives → r ≡ table (λ i. fused_by K T (direction_from n h t tv f i)) n → r ≡ added K
+    unfolding fused_by
+    added-is K p q d a =
+        rw (a, d, q, p)
+        (table_same _ _ n (λ i l. λ t. fused K (total ws) (direction-at i 0 l t) (direction-at i 1 l t ∷ direction-at i 2 l t ∷ direction-at i 3 l t ∷ [])))
+
+    -- for the rules' own share scale it is as small as the clamp takes it
     module _ {T : ℕ} {t : List ℕ} {f r : List ℤ} (p : T ≡ total ws) (q : t ≡ sums) (d : f ≡ fives) (a : r ≡ table (λ i. fused_by scale T (direction_from n h t tv f i)) n) where
-      pub added-is : r ≡ added
-      unfolding fused_by
-      added-is =
-          rw (a, d, q, p)
-          (table_same _ _ n (λ i l. λ t. fused scale (total ws) (direction-at i 0 l t) (direction-at i 1 l t ∷ direction-at i 2 l t ∷ direction-at i 3 l t ∷ [])))
-
-      -- it is as small as the clamp takes it
       pub added-within : 0 < total ws → InRange dh dv gh tv → AllWithin 131072 r
       unfolding fused_by
       added-within above b =
@@ -131,13 +132,13 @@ module _ (ws : List ℕ) (s odd n : ℕ) (dh dv : List ℤ) (gh : List ℕ) wher
       added-fit above b c g l = (rw a (length-table _ n), added-within above (record { dh-within = b; dv-within = c; gh-within = g; tv-within = l }))
 
 -- green of a row of readings x, from what fusion adds at its red and blue pixels
-pub row-from-added : (ws : List ℕ) (s odd : ℕ) (x : List ℕ) (dh dv : List ℤ) (gh tv : List ℕ) (bit : odd < 2) {n : ℕ} {r : List ℤ} → n ≡ (length x + 1 - odd) / 2 → r ≡ added ws s odd n dh dv gh bit ((length x + 1) / 2) tv
-    → table (green_by odd x (λ j. get_or r (j / 2) (pos 0))) (length x) ≡ table (green_in scale ws s odd x dh dv gh tv) (length x)
+pub row-from-added : (K : ℕ) (ws : List ℕ) (s odd : ℕ) (x : List ℕ) (dh dv : List ℤ) (gh tv : List ℕ) (bit : odd < 2) {n : ℕ} {r : List ℤ} → n ≡ (length x + 1 - odd) / 2 → r ≡ added ws s odd n dh dv gh bit ((length x + 1) / 2) tv K
+    → table (green_by odd x (λ j. get_or r (j / 2) (pos 0))) (length x) ≡ table (green_in K ws s odd x dh dv gh tv) (length x)
 unfolding green_in
-row-from-added ws s odd x dh dv gh tv bit {n} e a =
+row-from-added K ws s odd x dh dv gh tv bit {n} e a =
     rw a
     (table_same _ _ (length x)
     (λ j l. choice-same (j + odd) (λ _. refl)
     (λ red. ap (λ z. clamp (pos (16 * get_or x j 0) +ℤ z))
     (get_or-table _ n (j / 2) (pos 0) (omega arith)
-    ∙ (let m : 2 * (j / 2) + odd ≡ j = omega arith in ap (λ i. fused_by scale (total ws) (direction_in ws s ((length x + 1) / 2) dh dv gh tv i)) m)))))
+    ∙ (let m : 2 * (j / 2) + odd ≡ j = omega arith in ap (λ i. fused_by K (total ws) (direction_in ws s ((length x + 1) / 2) dh dv gh tv i)) m)))))

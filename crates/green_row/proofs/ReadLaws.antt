@@ -22,7 +22,7 @@ use Rattle.green_row.specs.Directions.{after, across}
 pub read_at : (w : Width) (d : List ℤ) (k : ℕ) → mag (get_or d k (pos 0)) < 2 ^ hbits w → to_z w (of_z w (get_or d k (pos 0))) ≡ get_or d k (pos 0)
 read_at w d k h = to_z-of_z w _ (sfits_of h)
 
-five-same : (ws : List ℕ) (D : ℕ → ℤ) {a b c d e : ℤ} → a ≡ D 0 → b ≡ D 1 → c ≡ D 2 → d ≡ D 3 → e ≡ D 4
+pub five-same : (ws : List ℕ) (D : ℕ → ℤ) {a b c d e : ℤ} → a ≡ D 0 → b ≡ D 1 → c ≡ D 2 → d ≡ D 3 → e ≡ D 4
     → five_sum ws (alternating (λ k. get_or (a ∷ b ∷ c ∷ d ∷ e ∷ []) k (pos 0))) ≡ five_sum ws (alternating D)
 five-same ws D p q r s t = rw (p, q, r, s, t)
 

@@ -19,6 +19,15 @@ pub record AroundRow (w s dh dv gh tv : ℕ) : Type 0 where
   pub gh-long : gh + 4 ≡ 3 * s
   pub tv-long : tv ≡ 3 * ((w + 1) / 2)
 
+-- room for a row: how many columns it suffices for, and how long its parts are
+pub record RowSizes : Type 0 where
+  pub columns : ℕ
+  pub sums : ℕ
+  pub fives : ℕ
+  pub added : ℕ
+  pub half : ℕ
+  pub other_half : ℕ
+
 -- lengths that suffice for a row of up to w columns
 pub record RowRoomFor (w sums fives added half other_half : ℕ) : Type 0 where
   pub for-sums : (w + 1) / 2 + 1 ≤ sums

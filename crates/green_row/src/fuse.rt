@@ -125,7 +125,7 @@ pub fn fuse_in(
     requires x_at_most { AllAtMost 4095 x.now }
     requires out_len { length out.old ≡ length x.now }
     requires around { AroundRow (length x.now) buffers.now.stride (length buffers.now.dh.now) (length buffers.now.dv.now) (length buffers.now.gh.now) (length buffers.now.tv.now) }
-    requires room_for_x { length x.now ≤ room.old }
+    requires room_for_x { length x.now ≤ room.old.columns }
     ensures value { out.new ≡ table (green_in scale (weights_of smoothing) buffers.now.stride odd x.now buffers.now.dh.now buffers.now.dv.now buffers.now.gh.now buffers.now.tv.now) (length x.now) }
     ensures same_room { room.new ≡ room.old }
 {

@@ -15,8 +15,8 @@ pub struct Buffers<'a> {
     pub ghost in_range: { InRange dh.now dv.now gh.now tv.now },
 }
 
-// Room for direction sums, five-sums, what fusion adds and two half rows. A contract sees it as the number of columns that a row may have in it: what it held before
-// does not matter, and what it holds afterwards is not promised.
+// Room for direction sums, five-sums, what fusion adds and two half rows. A contract sees it as the number of columns that a row may have in it and as how long each
+// part is: what it held before does not matter, and what it holds afterwards is not promised.
 #[derive(Drop)]
 pub struct RowRoom<'a> {
     pub columns: usize,
@@ -28,12 +28,12 @@ pub struct RowRoom<'a> {
 }
 
 impl<'a> Model for RowRoom<'a> {
-    ghost use Rattle.std.specs.Prelude.{ℕ, length};
-    ghost use Rattle.green_row.specs.Buffers.{RowRoomFor};
+    ghost use Rattle.std.specs.Prelude.{length};
+    ghost use Rattle.green_row.specs.Buffers.{RowRoomFor, RowSizes};
 
-    ghost Value = { ℕ };
+    ghost Value = { RowSizes };
 
-    ghost view = { λ r. r.columns };
+    ghost view = { λ r. record { columns = r.columns; sums = length r.sums.now; fives = length r.fives.now; added = length r.added.now; half = length r.half.now; other_half = length r.other_half.now } };
 
     ghost invariant = { λ r. RowRoomFor r.columns (length r.sums.now) (length r.fives.now) (length r.added.now) (length r.half.now) (length r.other_half.now) };
 }

@@ -12,7 +12,7 @@ use green_blocks::room::Room;
 fn green_beside(piece: &Piece<'_>, row: Option<usize>, room: &mut Room<'_>, out: &mut [u16])
     requires by_index { (v : ℕ) → row ≡ Some v → v < piece.now.frame.height → Lent piece.now.frame piece.now.start (length piece.now.readings.now) v }
     requires at_most { AllAtMost 4095 piece.now.readings.now }
-    requires room_for_frame { piece.now.frame.width ≤ room.old }
+    requires room_for_frame { piece.now.frame.width ≤ room.old.columns }
     requires out_len { length out.old ≡ piece.now.frame.width }
     ensures value { (v : ℕ) → row ≡ Some v → v < piece.now.frame.height → out.new ≡ green_row piece.now.frame piece.now.start piece.now.readings.now v }
     ensures same_room { room.new ≡ room.old }
@@ -36,7 +36,7 @@ pub fn greens(
     below: &mut [u16],
 )
     requires readable { Readable piece.now.frame piece.now.start piece.now.readings.now a n }
-    requires room_for_frame { piece.now.frame.width ≤ room.old }
+    requires room_for_frame { piece.now.frame.width ≤ room.old.columns }
     requires green_len { length green.old ≡ n * piece.now.frame.width }
     requires above_len { length above.old ≡ piece.now.frame.width }
     requires below_len { length below.old ≡ piece.now.frame.width }

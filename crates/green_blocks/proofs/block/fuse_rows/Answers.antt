@@ -78,7 +78,7 @@ fuse_in-requires-clause-around c =
     }
 
 pub fuse_in-requires-clause-room_for_x : goal.fuse_in-requires-clause-room_for_x
-fuse_in-requires-clause-room_for_x c = omega (arith, row-long c.args.block.now c.loop-i-test.true c.row-x.ensures, c.loop-i.invariant.1, c.requires.room_for_frame)
+fuse_in-requires-clause-room_for_x c = rw c.loop-i.invariant.1 (omega (arith, row-long c.args.block.now c.loop-i-test.true c.row-x.ensures, c.requires.room_for_frame))
 
 pub loop-i-preserved : goal.loop-i-preserved
 loop-i-preserved c =

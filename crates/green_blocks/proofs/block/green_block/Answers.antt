@@ -4,6 +4,8 @@ use Rattle.lists.specs.Bound.{AllAtMost}
 use Rattle.lists.specs.Part.{part}
 use Rattle.lists.specs.Table.{table, joined}
 use Rattle.bayer.proofs.ParityLaws.{starts-below}
+use Rattle.gbtf.specs.Weights.{scale, weights_of}
+use Rattle.green_rule.specs.Greens.{greens}
 use Rattle.green_row.specs.AlongAxis.{difference_in, gradient_in}
 use Rattle.green_row.specs.Extended.{extended_row}
 use Rattle.green_row.proofs.BufferBounds.{extended-at-most}
@@ -58,6 +60,8 @@ invariant_of-buffers c =
     record { in_range = in-range (holds k c.fetch.ensures c.all_differences.ensures c.all_gradients.ensures) c.requires.range (rw c.starts_green-odd.ensures at c.column_sums.ensures) }
 
 pub returns-clause-value : goal.returns-clause-value
+unfolding greens
 returns-clause-value c =
     let k = c.args.block.now in
-    block-fused (holds k c.fetch.ensures c.all_differences.ensures c.all_gradients.ensures) (rw c.starts_green-odd.ensures at c.column_sums.ensures) c.fuse_rows.ensures.value
+    block-fused (holds k c.fetch.ensures c.all_differences.ensures c.all_gradients.ensures) (rw c.starts_green-odd.ensures at c.column_sums.ensures) scale (weights_of k.piece.frame.smoothing)
+    c.fuse_rows.ensures.value

@@ -1,7 +1,7 @@
 use Rattle.std.proofs.Common.{◌∙◌, ap, ◌+◌, ◌/◌, length}
 use Rattle.lists.specs.Table.{table}
 use Rattle.gbtf.specs.Direction.{total}
-use Rattle.gbtf.specs.Weights.{weights_of}
+use Rattle.gbtf.specs.Weights.{scale, weights_of}
 use Rattle.green_row.proofs.DirectionLaws.{sums-fit, fives-fit, added-is, added-within}
 use Rattle.green_row.proofs.fuse.added.Goals as goal
 
@@ -20,7 +20,7 @@ pub returns-clause-value : goal.returns-clause-value
 returns-clause-value c =
     let a = c.args in
     let b = a.buffers.now in
-    added-is (weights_of a.smoothing) b.stride a.odd (length a.out.now) b.dh.now b.dv.now b.gh.now c.requires.odd_bound ((a.w + 1) / 2) b.tv.now
+    added-is (weights_of a.smoothing) b.stride a.odd (length a.out.now) b.dh.now b.dv.now b.gh.now c.requires.odd_bound ((a.w + 1) / 2) b.tv.now scale
     (c.total.ensures ∙ ap total c.weights_of-weights.ensures.value) (c.sums.ensures ∙ ap (table _) c.requires.t_len) c.row_fives.ensures c.fuse_row.ensures
 
 pub returns-clause-range : goal.returns-clause-range
