@@ -102,7 +102,14 @@ fn colour_row(
     if k == partner(frame.layout, v) {
         own_row(row, &nearby.own, room, out);
     } else {
-        other_row(row, &nearby.above, &nearby.below, room, out);
+        other_row(
+            row.side,
+            row.greens,
+            &nearby.above,
+            &nearby.below,
+            room,
+            out,
+        );
     }
 }
 
