@@ -2,6 +2,7 @@ ghost use Rattle.std.specs.Prelude.{◌≡◌, ◌≤◌, ◌<◌, length};
 ghost use Rattle.lists.specs.Table.{table};
 ghost use Rattle.lists.specs.Bound.{AllAtMost};
 ghost use Rattle.fill_rows.specs.HalfFill.{own_edged, other_edged};
+ghost use Rattle.fill_rows.specs.HalfRoom.{HalfRowsFor};
 
 use crate::half::{diagonals, pairs};
 use crate::row::{Differences, HalfRows, Row};
@@ -13,7 +14,7 @@ pub fn own_row(row: &Row<'_>, own: &Differences<'_>, room: &mut HalfRows<'_>, ou
     requires range { AllAtMost 4095 row.now.readings.now }
     requires out_len { length out.old ≡ length row.now.readings.now }
     requires width { own.now.width ≡ length row.now.readings.now }
-    requires room { length row.now.readings.now ≤ room.old }
+    requires room { HalfRowsFor (length row.now.readings.now) room.old }
     ensures value { out.new ≡ table (own_edged row.now.side row.now.readings.now row.now.greens.now own.now.list.now) (length row.now.readings.now) }
     ensures room { room.new ≡ room.old }
 {
@@ -48,7 +49,7 @@ pub fn other_row(
     requires out_len { length out.old ≡ length greens.now }
     requires above_width { above.now.width ≡ length greens.now }
     requires below_width { below.now.width ≡ length greens.now }
-    requires room { length greens.now ≤ room.old }
+    requires room { HalfRowsFor (length greens.now) room.old }
     ensures value { out.new ≡ table (other_edged side greens.now above.now.list.now below.now.list.now) (length greens.now) }
     ensures room { room.new ≡ room.old }
 {
