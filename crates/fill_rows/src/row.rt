@@ -1,6 +1,7 @@
-ghost use Rattle.std.specs.Prelude.{◌≡◌, ◌*◌, ◌≤◌, ◌<◌, ℕ, min, length};
+ghost use Rattle.std.specs.Prelude.{◌≡◌, ◌≤◌, ◌<◌, length};
 ghost use Rattle.half_rows.specs.HalfRow.{pixels};
 ghost use Rattle.fill_rows.specs.HalfFill.{Differences};
+ghost use Rattle.fill_rows.specs.HalfRoom.{HalfSizes};
 
 use std::marker::Model;
 
@@ -32,8 +33,8 @@ pub struct Differences<'a> {
     pub ghost fit: { Differences width list.now },
 }
 
-// Room for the two half rows that a row of red or blue is put together from. In contracts it is how many columns that row may have; what the half rows held before
-// does not matter, and what they hold afterwards is not promised.
+// Room for the two half rows that a row of red or blue is put together from. In contracts it is their lengths; what they held before does not matter, and what they
+// hold afterwards is not promised.
 #[derive(Drop)]
 pub struct HalfRows<'a> {
     pub first: &'a mut [u16],
@@ -41,7 +42,7 @@ pub struct HalfRows<'a> {
 }
 
 impl<'a> Model for HalfRows<'a> {
-    ghost Value = { ℕ };
+    ghost Value = { HalfSizes };
 
-    ghost view = { λ r. 2 * min (length r.first.now) (length r.second.now) };
+    ghost view = { λ r. record { first = length r.first.now; second = length r.second.now } };
 }

@@ -16,7 +16,8 @@ use Rattle.bayer.specs.Mosaic.{continued}
 use Rattle.bayer.specs.Lent.{Lent}
 use Rattle.green_rule.specs.Greens.{greens, green_row}
 use Rattle.demosaic.specs.Sample.{other_from, plane_rows}
-use Rattle.fill_rows.specs.HalfFill.{edged, own_edged, other_edged}
+use Rattle.fill_rows.specs.HalfFill.{places, edged, own_edged, other_edged}
+use Rattle.fill_rows.specs.HalfRoom.{HalfSizes, HalfRowsFor}
 
 -- row v of colour k, red or blue
 abbrev pub colour_row : Frame → (first : ℕ) (rows : List ℕ) → Colour → (v : ℕ) → List ℕ
@@ -43,6 +44,16 @@ pub record GreensOf (f : Frame) (first : ℕ) (rows : List ℕ) (a n : ℕ) (gre
 -- row v of them
 abbrev pub among_greens : (w a n : ℕ) (green above below : List ℕ) (v : ℕ) → List ℕ
 among_greens w a n green above below v = cond (ltb v a) above (cond (ltb v (a + n)) (row_of w (v - a) green) below)
+
+-- the lengths of the room for red and blue of a block: of its lists of colour differences, and of two half rows
+pub record ColourSizes : Type 0 where
+  pub differences : ℕ
+  pub halves : HalfSizes
+
+-- the lists of colour differences of a block of up to eight rows, w wide, and of the rows above and below it, and the two half rows of a row have room
+pub record ColourRoomFor (w : ℕ) (room : ColourSizes) : Type 0 where
+  pub for-differences : 10 * places w ≤ room.differences
+  pub for-halves : HalfRowsFor w room.halves
 
 -- rows v to v + b − 1, one to eight of them, are a block of rows a to a + n − 1
 pub record Block (a n v b : ℕ) : Type 0 where

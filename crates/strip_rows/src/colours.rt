@@ -1,11 +1,12 @@
-ghost use Rattle.std.specs.Prelude.{◌≡◌, ℕ, ◌+◌, ◌-◌, ◌*◌, ◌/◌, ◌≤◌, min, length};
+ghost use Rattle.std.specs.Prelude.{◌≡◌, ◌+◌, ◌*◌, length};
 ghost use Rattle.lists.specs.Table.{joined};
 ghost use Rattle.lists.specs.Bound.{AllAtMost};
 ghost use Rattle.bayer.specs.Parity.{starts_green};
 ghost use Rattle.bayer.specs.declared.colour.Colour.TheVariants.{Red, Blue};
 ghost use Rattle.demosaic.specs.Sample.{plane_rows};
 ghost use Rattle.fill_rows.specs.HalfFill.{places};
-ghost use Rattle.strip_rows.specs.StripRows.{colour_row, Readable, GreensOf, among_greens, Block, colour_edged, block_differences};
+ghost use Rattle.fill_rows.specs.HalfRoom.{HalfRowsFor};
+ghost use Rattle.strip_rows.specs.StripRows.{colour_row, Readable, GreensOf, among_greens, ColourSizes, ColourRoomFor, Block, colour_edged, block_differences};
 
 use bayer::colour::{Colour, partner};
 use bayer::frame::Frame;
@@ -67,7 +68,7 @@ struct Nearby<'a> {
 }
 
 // Room for red and blue of a block of rows: the lists of colour differences of up to eight rows and of those above and below them, and two half rows. In contracts
-// it is how many columns the rows may have; what it held before does not matter, and what it holds afterwards is not promised.
+// it is their lengths; what it held before does not matter, and what it holds afterwards is not promised.
 #[derive(Drop)]
 pub struct ColourRoom<'a> {
     pub differences: &'a mut [i32],
@@ -75,9 +76,9 @@ pub struct ColourRoom<'a> {
 }
 
 impl<'a> Model for ColourRoom<'a> {
-    ghost Value = { ℕ };
+    ghost Value = { ColourSizes };
 
-    ghost view = { λ r. min (2 * (length r.differences.now / 10 - 2)) r.halves };
+    ghost view = { λ r. record { differences = length r.differences.now; halves = r.halves } };
 }
 
 // Row v of colour k, red or blue.
@@ -95,14 +96,21 @@ fn colour_row(
     requires range { AllAtMost 4095 row.now.readings.now }
     requires nearby { (nearby.now.above.width ≡ frame.width) × (nearby.now.own.width ≡ frame.width) × (nearby.now.below.width ≡ frame.width) }
     requires out_len { length out.old ≡ frame.width }
-    requires room { frame.width ≤ room.old }
+    requires room { HalfRowsFor frame.width room.old }
     ensures value { out.new ≡ colour_edged frame k v row.now.readings.now row.now.greens.now nearby.now.above.list.now nearby.now.own.list.now nearby.now.below.list.now }
     ensures room { room.new ≡ room.old }
 {
     if k == partner(frame.layout, v) {
         own_row(row, &nearby.own, room, out);
     } else {
-        other_row(row, &nearby.above, &nearby.below, room, out);
+        other_row(
+            row.side,
+            row.greens,
+            &nearby.above,
+            &nearby.below,
+            room,
+            out,
+        );
     }
 }
 
@@ -115,7 +123,7 @@ fn colour_rows(
     blue: &mut [u16],
 )
     requires lists { lists.now ≡ joined (block_differences block.now.strip.piece.frame block.now.strip.piece.start block.now.strip.piece.readings.now block.now.first) (block.now.rows + 2) }
-    requires room { block.now.strip.piece.frame.width ≤ room.old }
+    requires room { HalfRowsFor block.now.strip.piece.frame.width room.old }
     requires planes { (length red.old ≡ block.now.rows * block.now.strip.piece.frame.width) × (length blue.old ≡ block.now.rows * block.now.strip.piece.frame.width) }
     ensures red_after { red.new ≡ joined (λ i. colour_row block.now.strip.piece.frame block.now.strip.piece.start block.now.strip.piece.readings.now Red (block.now.first + i)) block.now.rows }
     ensures blue_after { blue.new ≡ joined (λ i. colour_row block.now.strip.piece.frame block.now.strip.piece.start block.now.strip.piece.readings.now Blue (block.now.first + i)) block.now.rows }
@@ -181,7 +189,7 @@ fn block_differences(block: &Block<'_>, lists: &mut [i32])
 
 // Red and blue of a block, in as much of the room as its lists of colour differences need: each is made once.
 fn colour_block(block: &Block<'_>, room: &mut ColourRoom<'_>, red: &mut [u16], blue: &mut [u16])
-    requires room { block.now.strip.piece.frame.width ≤ room.old }
+    requires room { ColourRoomFor block.now.strip.piece.frame.width room.old }
     requires planes { (length red.old ≡ block.now.rows * block.now.strip.piece.frame.width) × (length blue.old ≡ block.now.rows * block.now.strip.piece.frame.width) }
     ensures red_after { red.new ≡ joined (λ i. colour_row block.now.strip.piece.frame block.now.strip.piece.start block.now.strip.piece.readings.now Red (block.now.first + i)) block.now.rows }
     ensures blue_after { blue.new ≡ joined (λ i. colour_row block.now.strip.piece.frame block.now.strip.piece.start block.now.strip.piece.readings.now Blue (block.now.first + i)) block.now.rows }
@@ -200,7 +208,7 @@ pub fn colour_planes(
     red: &mut [u16],
     blue: &mut [u16],
 )
-    requires room { strip.now.piece.frame.width ≤ room.old }
+    requires room { ColourRoomFor strip.now.piece.frame.width room.old }
     requires planes { (length red.old ≡ strip.now.rows * strip.now.piece.frame.width) × (length blue.old ≡ strip.now.rows * strip.now.piece.frame.width) }
     ensures red_after { red.new ≡ plane_rows strip.now.piece.frame strip.now.piece.start strip.now.piece.readings.now strip.now.first strip.now.rows Red }
     ensures blue_after { blue.new ≡ plane_rows strip.now.piece.frame strip.now.piece.start strip.now.piece.readings.now strip.now.first strip.now.rows Blue }
