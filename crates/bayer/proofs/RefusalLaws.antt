@@ -39,6 +39,10 @@ or-cond false k l m n h e = e
 or_right : {m : ℕ} (n : ℕ) → m ≡ 0 → or_else m n ≡ n
 or_right n e = rw e
 
+pub or_left : (m n : ℕ) → (m ≡ 0 → ⊥) → or_else m n ≡ m
+or_left zero n h = absurd (h refl)
+or_left (suc m) n h = refl
+
 or_same : (k m n : ℕ) → (k ≡ 0 → m ≡ n) → or_else k m ≡ or_else k n
 or_same zero m n h = h refl
 or_same (suc k) m n h = refl
@@ -56,6 +60,10 @@ first-append (c ∷ cs) ds = or-cond c.holds (number c.refusal) (first_of (cs ++
 -- where none of the first list holds, the second decides
 pub later : (cs ds : List Case) → first_of cs ≡ 0 → first_of (cs ++ ds) ≡ first_of ds
 later cs ds e = first-append cs ds ∙ or_right (first_of ds) e
+
+-- where one of the first holds, it decides
+pub sooner : (cs ds : List Case) → (first_of cs ≡ 0 → ⊥) → first_of (cs ++ ds) ≡ first_of cs
+sooner cs ds h = first-append cs ds ∙ or_left (first_of cs) (first_of ds) h
 
 -- conditions of which none holds where none of those before them does may be left out
 pub skip : (cs ds es : List Case) → (first_of cs ≡ 0 → first_of ds ≡ 0) → first_of (cs ++ (ds ++ es)) ≡ first_of (cs ++ es)

@@ -1,5 +1,5 @@
 ghost use Rattle.std.specs.Prelude.{◌≡◌, ◌<◌};
-ghost use Rattle.blend.specs.Logistic.{weight_at};
+ghost use Rattle.blend.specs.Logistic.{logistic, weight_at};
 ghost use Rattle.blend.specs.Machine.{place_of};
 
 use crate::axis::distance;
@@ -20,6 +20,14 @@ static LOGISTIC: [u16; 256] = [
     3, 2, 2, 2, 2, 2, 2, 2, 2, 2, 2, 1, 1, 1, 1, 1, 1, 1, 1, 1, 1, 1, 1, 1, 1, 1, 1, 1, 1, 1, 1, 1,
     1, 0, 0, 0, 0, 0, 0, 0, 0, 0, 0, 0, 0, 0, 0, 0, 0, 0, 0, 0, 0,
 ];
+
+// The table, by the name that docs/a8.patch lists for callers of this crate: it stays for them.
+#[tactic(auto, unfolding(crate::specs::Logistic::logistic))]
+pub fn logistic() -> [u16; 256]
+    ensures { result ≡ logistic }
+{
+    LOGISTIC
+}
 
 // k, stopped at the last place, from the variations of the row and the column.
 pub fn place(row: u16, column: u16) -> u16

@@ -10,19 +10,21 @@ use Rattle.lists.specs.Table.{table}
 use Rattle.lists.specs.Part.{part}
 use Rattle.lists.specs.Bound.{AllAtMost}
 use Rattle.lists.proofs.TableLaws.{length-table, get_or-table, table_same, table-all}
-use Rattle.lists.proofs.PartLaws.{first_part, other-part, get_or-from}
+use Rattle.lists.proofs.PartLaws.{length_part, first_part, other-part, get_or-from}
+use Rattle.lists.proofs.BoundLaws.{all-part}
 use Rattle.blend.specs.declared.axis.Axis.{Axis}
 use Rattle.blend.specs.Logistic.{weight_at}
 use Rattle.blend.specs.Blend.{axis, blend}
 use Rattle.blend.specs.Machine.{place_of, Fitting}
 use Rattle.blend.proofs.Bounds.{estimate-most, estimates-near}
 use Rattle.blend_rows.specs.declared.around.Around.{Around}
-use Rattle.blend_rows.specs.BlendIn.{axis_from, HalfRows, row_axis_in, column_axis_in, blend_in, axis_of, Axes, Weighted}
+use Rattle.blend_rows.specs.BlendIn.{Lines, axis_from, HalfRows, row_axis_in, column_axis_in, blend_in, axis_of, Axes, Weighted}
 
 -- ---- readings from place a of a list on, enough for n pixels
 
-record From (n a : ℕ) (l : List ℕ) : Type 0 where
+pub record From (n a : ℕ) (l : List ℕ) : Type 0 where
   pub room : a + n ≤ length l
+  pub small : AllAtMost 4095 l
 
 pub half_rows : (a : Around) → HalfRows a.places a.own.now a.beside.now
 half_rows a = record { five = a.five; one = a.one; own-small = a.own_small; beside-small = a.beside_small }
@@ -31,11 +33,31 @@ module _ {n a : ℕ} {l : List ℕ} (z : From n a l) where
   abbrev rest : List ℕ
   rest = part a (length l - a) l
 
+  long : n ≤ length rest
+  long = rw (length_part a (length l - a) l (omega (arith, z.room))) (omega (arith, z.room))
+
+  rest-small : AllAtMost 4095 rest
+  rest-small = all-part (λ i. i ≤ 4095) 0 (omega arith) a (length l - a) l z.small
+
   entry : (k : ℕ) → k < n → get_or rest k 0 ≡ get_or l (a + k) 0
   entry k h = get_or-from a l k (a + k) 0 (omega (arith, z.room)) refl
 
 module _ {n a b c d e : ℕ} {A B C D E : List ℕ} (hA : From n a A) (hB : From n b B) (hC : From n c C) (hD : From n d D) (hE : From n e E) where
-  axes-from : {X : Type 0} (of : Axis → X) (m : ℕ) → m ≡ n
+  pub lines : Lines n (rest hA) (rest hB) (rest hC) (rest hD) (rest hE)
+  lines = record {
+    long-c = long hA;
+    long-l = long hB;
+    long-r = long hC;
+    long-p = long hD;
+    long-q = long hE;
+    small-c = rest-small hA;
+    small-l = rest-small hB;
+    small_r = rest-small hC;
+    small-p = rest-small hD;
+    small-q = rest-small hE;
+  }
+
+  pub axes-from : {X : Type 0} (of : Axis → X) (m : ℕ) → m ≡ n
       → table (λ k. of (axis_from (rest hA) (rest hB) (rest hC) (rest hD) (rest hE) k)) m ≡ table (λ k. of (axis (get_or A (a + k) 0) (get_or B (b + k) 0) (get_or C (c + k) 0) (get_or D (d + k) 0) (get_or E (e + k) 0))) m
   axes-from of m i =
       table_same _ _ m
@@ -45,10 +67,10 @@ module _ {n a b c d e : ℕ} {A B C D E : List ℕ} (hA : From n a A) (hB : From
 
 module _ {h : ℕ} {own beside : List ℕ} (z : HalfRows h own beside) (n : ℕ) (fits : n + 2 ≤ h) where
   from-own : (a : ℕ) → a + n ≤ length own → From n a own
-  from-own a l = record { room = l }
+  from-own a l = record { room = l; small = z.own-small }
 
   from-beside : (a : ℕ) → a + n ≤ length beside → From n a beside
-  from-beside a l = record { room = l }
+  from-beside a l = record { room = l; small = z.beside-small }
 
   pub measured-along : (side : ℕ) → side < 2 → {X : Type 0} (of : Axis → X) (m : ℕ) → m ≡ n
       → let c = part (2 * h + 1) (length own - (2 * h + 1)) own in

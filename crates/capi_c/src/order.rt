@@ -17,11 +17,9 @@ use crate::views::{
 };
 
 fn checksum(plane: &[u16]) -> u32 {
-    let mut sum: u32 = 0;
-    for sample in plane {
-        sum = sum.wrapping_mul(31).wrapping_add(u32::from(*sample));
-    }
-    sum
+    plane.iter().fold(0u32, |sum, sample| {
+        ((31 * u64::from(sum) + u64::from(*sample)) % 0x1_0000_0000) as u32
+    })
 }
 
 // The test frame of seed 3, 6 by 20: the piece of rows 4 to 6 is its rows 0 to 13.

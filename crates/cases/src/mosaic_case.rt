@@ -2,7 +2,7 @@
 use crate::frame::{Frame, Rows};
 use crate::numbers::Numbers;
 use crate::planes::{Lengths, MOST_PIECE, MOST_PLANE, Planes, Room, lent};
-use crate::recipe::{Put, camera_plane, plane};
+use crate::recipe::{Put, camera_plane, further, plane};
 use crate::strip_case::StripCase;
 use crate::summary::Summary;
 use bayer::colour::Colour;
@@ -94,9 +94,9 @@ impl MosaicCase {
     fn fill(&self, planes: &mut Planes) {
         let seed = self.seed;
         let round = self.round;
-        camera_plane(seed.wrapping_add(1), self.width, round, planes.red);
-        camera_plane(seed.wrapping_add(2), self.width, round / 16, planes.green);
-        camera_plane(seed.wrapping_add(3), self.width, round / 256, planes.blue);
+        camera_plane(further(seed, 1), self.width, round, planes.red);
+        camera_plane(further(seed, 2), self.width, round / 16, planes.green);
+        camera_plane(further(seed, 3), self.width, round / 256, planes.blue);
         for put in self.puts {
             put.set(planes);
         }
@@ -108,7 +108,7 @@ impl MosaicCase {
         let mut planes = room.lent(self.planes);
         let mosaic = lent(&mut mosaic, self.mosaic);
         self.fill(&mut planes);
-        plane(self.seed.wrapping_add(4), mosaic);
+        plane(further(self.seed, 4), mosaic);
         answer(rt, self.frame, self.rows, &planes, mosaic)
     }
 }
@@ -122,7 +122,7 @@ pub fn there_and_back(rt: &impl Print, case: &StripCase) -> io::Result<()> {
     let mut planes = room.lent(case.planes);
     let mosaic = lent(&mut mosaic, case.planes.red);
     case.recipe.fill(piece, &mut planes);
-    plane(case.recipe.seed.wrapping_add(4), mosaic);
+    plane(further(case.recipe.seed, 4), mosaic);
     case.call(case.rows, piece, &mut planes);
     answer(rt, case.frame, case.rows, &planes, mosaic)
 }

@@ -4,6 +4,16 @@ ghost use Rattle.std.specs.Prelude.{◌<◌, ◌≤◌};
 use crate::numbers::Numbers;
 use crate::planes::Planes;
 
+// A state of the generator: a number modulo 2^32.
+pub fn state_of(x: u64) -> u32 {
+    (x % 0x1_0000_0000) as u32
+}
+
+// The seed a few numbers on.
+pub fn further(seed: u32, steps: u8) -> u32 {
+    state_of(u64::from(seed) + u64::from(steps))
+}
+
 // The states that follow one, without end.
 #[derive(Drop)]
 struct Generator {
@@ -14,7 +24,7 @@ impl Iterator for Generator {
     type Item = u32;
 
     fn next(&mut self) -> Option<u32> {
-        self.state = self.state.wrapping_mul(1664525).wrapping_add(1013904223);
+        self.state = state_of(1664525 * u64::from(self.state) + 1013904223);
         Some(self.state)
     }
 }
@@ -186,7 +196,7 @@ impl Recipe {
         let width = self.width.max(1);
         let states = Generator { state: self.seed };
         for ((t, reading), x) in piece.iter_mut().enumerate().zip(states) {
-            let row = low(t / width).wrapping_add(self.first_row);
+            let row = low(usize::from(low(t / width)) + usize::from(self.first_row));
             *reading = self.reading(x, row, low(t % width));
         }
         for put in self.puts {
@@ -196,9 +206,9 @@ impl Recipe {
 
     // What the three planes of a strip hold before a call.
     fn planes(&self, planes: &mut Planes) {
-        plane(self.seed.wrapping_add(1), planes.red);
-        plane(self.seed.wrapping_add(2), planes.green);
-        plane(self.seed.wrapping_add(3), planes.blue);
+        plane(further(self.seed, 1), planes.red);
+        plane(further(self.seed, 2), planes.green);
+        plane(further(self.seed, 3), planes.blue);
     }
 
     // What a strip is lent.
@@ -235,6 +245,6 @@ pub fn camera_plane(seed: u32, width: usize, bits: usize, samples: &mut [u16]) {
 // Samples that count up from a number.
 pub fn count(from: u16, samples: &mut [u16]) {
     for (t, sample) in samples.iter_mut().enumerate() {
-        *sample = low(t).wrapping_add(from);
+        *sample = low(usize::from(low(t)) + usize::from(from));
     }
 }

@@ -1,22 +1,23 @@
 // What is printed of samples.
+use crate::recipe::state_of;
 use std::fmt;
 
 // The checksum of some samples, each of which changes it.
 pub fn checksum(samples: &[u16]) -> u32 {
     samples.iter().fold(0u32, |checksum, sample| {
-        checksum
-            .wrapping_mul(1664525)
-            .wrapping_add(u32::from(*sample))
-            .wrapping_add(1)
+        state_of(1664525 * u64::from(checksum) + u64::from(*sample) + 1)
     })
 }
 
-// The sum of some samples, modulo 2^60.
+// Sums are counted modulo 2^60.
+const MODULUS: u64 = 0x1000_0000_0000_0000;
+
+// The sum of some samples, by that modulus.
 fn sum(samples: &[u16]) -> u64 {
     let sum = samples
         .iter()
-        .fold(0u64, |sum, sample| sum.wrapping_add(u64::from(*sample)));
-    sum % 0x1000_0000_0000_0000
+        .fold(0u64, |sum, sample| sum % MODULUS + u64::from(*sample));
+    sum % MODULUS
 }
 
 // Of a plane: sum, checksum, first and last sample, or 0 0.

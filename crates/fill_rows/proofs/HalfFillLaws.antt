@@ -1,12 +1,13 @@
 -- The half rows that are filled in make the rows that the definitions say, and these are what the mirrors give. Assumes nothing.
 use Prim.Native.Nat.{ℕ, ◌+◌, ◌-◌, ◌*◌, ◌/◌, ◌%◌, ◌≤◌, ◌<◌}
 use mathlib.Core.Path.{◌≡◌, refl, ap, ap₂, ◌∙◌}
-use mathlib.Core.List.{List, [], ◌∷◌}
+use mathlib.Core.List.{List, [], ◌∷◌, ◌++◌}
 use native.Mathlib.Omega.{arith}
 use lib.IntN.{ℤ, pos}
-use lib.ListN.{length, get_or, take, drop}
+use lib.ListN.{length, get_or, take, drop, length-append}
+use lib.Seq.{take_at}
 use Rattle.lists.specs.Table.{table}
-use Rattle.lists.proofs.TableLaws.{table_same}
+use Rattle.lists.proofs.TableLaws.{length-table, table_same}
 use Rattle.lists.proofs.PartLaws.{get_or-from}
 use Rattle.half_rows.specs.HalfRow.{pixels, interleaved}
 use Rattle.half_rows.proofs.HalfLaws.{choice-same, from_halves}
@@ -24,6 +25,21 @@ two g a b = fill 2 g (sum_of (a ∷ b ∷ []))
 
 abbrev four : (g : ℕ) (a b c d : ℤ) → ℕ
 four g a b c d = fill 4 g (sum_of (a ∷ b ∷ c ∷ d ∷ []))
+
+-- ---- a half row of n places, at the front of its room
+
+module _ (n : ℕ) (F : ℕ → ℕ) {i : ℕ} {l : List ℕ} (rest : List ℕ) (h : i ≡ n) (e : l ≡ table F i) where
+  made-long : length l ≡ n
+  made-long = ap length e ∙ length-table F i ∙ h
+
+  pub front_fits : n ≤ length (l ++ rest)
+  front_fits = rw (length-append, made-long) (omega arith)
+
+  pub front : take (n - 0) (l ++ rest) ≡ table F n
+  front = let z : n ≡ n - 0 = omega arith in take_at l rest (n - 0) (made-long ∙ z) ∙ e ∙ ap (table F) h
+
+  pub front_long : length (take (n - 0) (l ++ rest)) ≡ n
+  front_long = ap length front ∙ length-table F n
 
 -- ---- the colour that shares the row with green
 

@@ -6,7 +6,7 @@ ghost use Rattle.frame_bytes.specs.FrameBytes.{big_endian, frame_at};
 
 use bayer::frame::Frame;
 
-#[tactic(auto, using(crate::proofs::BigEndianLaws::two_is))]
+#[tactic(auto, using(crate::proofs::BigEndianLaws::two_read))]
 pub fn two_bytes(bytes: &[u8], at: usize) -> u16
     requires { at + 2 ≤ length bytes.now }
     ensures { result ≡ big_endian bytes.now at 2 }
@@ -14,7 +14,7 @@ pub fn two_bytes(bytes: &[u8], at: usize) -> u16
     u16::from_be_bytes([bytes[at], bytes[at + 1]])
 }
 
-#[tactic(auto, using(crate::proofs::BigEndianLaws::four_is))]
+#[tactic(auto, using(crate::proofs::BigEndianLaws::four_read))]
 pub fn four_bytes(bytes: &[u8], at: usize) -> u32
     requires { at + 4 ≤ length bytes.now }
     ensures { result ≡ big_endian bytes.now at 4 }

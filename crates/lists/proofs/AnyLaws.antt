@@ -1,5 +1,5 @@
--- Whether some element passes a test: laws of lists one element longer and of lists given by a rule; and what holds of all if none does. Assumes nothing.
-use Prim.Native.Nat.{ℕ, zero, suc, ◌+◌, ◌<◌}
+-- Whether some element passes a test: laws of lists one element longer, of what is left from a place on and of lists given by a rule; and what holds of all if none does. Assumes nothing.
+use Prim.Native.Nat.{ℕ, zero, suc, ◌+◌, ◌≤◌, ◌<◌}
 use mathlib.Core.Path.{◌≡◌, refl, sym, ap, ◌∙◌}
 use mathlib.Core.Bool.{Bool, true, false, ◌||◌}
 use mathlib.Core.List.{List, [], ◌∷◌, ◌++◌}
@@ -9,8 +9,8 @@ use native.Mathlib.Numerals.{add-one}
 use native.Mathlib.Omega.{arith}
 use borrow.Author.Tests.{ltb-false, le-ltb}
 use lib.Dec.{ltb}
-use lib.ListN.{length, get_or, take}
-use Rattle.std.proofs.lemmas.List.{take_more}
+use lib.ListN.{length, get_or, take, drop}
+use Rattle.std.proofs.lemmas.List.{take_more, drop_more, drop_all}
 use Rattle.whole.proofs.Tests.{neither}
 use Rattle.lists.specs.Any.{any}
 use Rattle.lists.specs.Table.{table, joined}
@@ -27,6 +27,17 @@ or-true false = refl
 or-false : (a : Bool) → a || false ≡ a
 or-false true = refl
 or-false false = refl
+
+-- ---- b: whether some element before place i passes
+
+module _ {A : Type 0} (p : A → Bool) (l : List A) (i : ℕ) (b : Bool) where
+  pub any_next : (d : A) → i < length l → b || any p (drop i l) ≡ (b || p (get_or l i d)) || any p (drop (i + 1) l)
+  unfolding any
+  any_next d h = rw (drop_more l i d h) (or_assoc b (p (get_or l i d)) (any p (drop (i + 1) l)))
+
+  pub any-end : length l ≤ i → b || any p (drop i l) ≡ b
+  unfolding any
+  any-end h = rw (drop_all i l h) (or-false b)
 
 -- ---- up to a place of a list that is given by a rule
 

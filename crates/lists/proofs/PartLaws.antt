@@ -5,7 +5,7 @@ use mathlib.Core.Path.{◌≡◌, refl, sym, ap, ◌∙◌}
 use native.Mathlib.Nat.{add-sub_cancel_left}
 use native.Mathlib.Omega.{arith}
 use lib.ListN.{length, take, drop, get_or, length-append, length-take, length-drop, drop_of_length-le}
-use lib.Seq.{length-take-le, take_all, take_at, take-take, drop_at, get_or-take, get_or-drop}
+use lib.Seq.{length-take-le, take_all, take_at, take-take, drop_at, drop-drop, get_or-take, get_or-drop}
 use Rattle.lists.specs.Part.{part, row_of}
 
 module _ {A : Type 0} where
@@ -54,6 +54,10 @@ module _ {A : Type 0} where
   -- of all from the a-th on
   pub get_or-from : (a : ℕ) (l : List A) (k n : ℕ) (d : A) → a + k < length l → a + k ≡ n → get_or (part a (length l - a) l) k d ≡ get_or l n d
   get_or-from a l k n d h e = get_or_part a (length l - a) l k d (omega arith) ∙ ap (λ i. get_or l i d) e
+
+  -- a part of a part
+  pub part-part : (a k b n : ℕ) (l : List A) → a + k ≤ n → part a k (part b n l) ≡ part (b + a) k l
+  part-part a k b n l h = part-take a k n (drop b l) h ∙ ap (take k) (drop-drop a b l)
 
 -- ---- rows, w wide
 

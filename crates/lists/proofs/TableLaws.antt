@@ -3,11 +3,11 @@ use Prim.Native.Nat.{ℕ, zero, suc, ◌+◌, ◌-◌, ◌≤◌, ◌<◌}
 use mathlib.Core.Path.{◌≡◌, refl, sym, subst, ap, ap₂, ◌∙◌}
 use mathlib.Core.List.{List, [], ◌∷◌, ◌++◌, append_assoc, append-nil}
 use native.Mathlib.Decide.{dec_le}
-use native.Mathlib.Nat.{add-zero, add-suc, not-suc-le-zero}
+use native.Mathlib.Nat.{add-zero, add-suc, not-suc-le-zero, le_antisymm}
 use native.Mathlib.Numerals.{add-one}
 use native.Mathlib.Omega.{arith}
-use lib.ListN.{length, get_or, length-append, get_or-append, get_or-eq_default}
-use lib.Seq.{take_at, drop_at, get_or_at, ext_get_or}
+use lib.ListN.{length, drop, get_or, set, length-append, drop_of_length-le, length-set, get_or-append, get_or-eq_default}
+use lib.Seq.{drop-cons, set_at, append_snoc, take_at, drop_at, get_or_at, ext_get_or}
 use Rattle.lists.specs.Table.{table}
 use Rattle.lists.specs.Part.{part}
 
@@ -62,3 +62,26 @@ module _ {A : Type 0} where
   pub table_of_entries : (d : A) {l : List A} {f : ℕ → A} {n : ℕ} → length l ≡ n → ((i : ℕ) → i < n → get_or l i d ≡ f i) → l ≡ table f n
   table_of_entries d {l} {f} {n} e h =
       ext_get_or d l (table f n) (e ∙ sym (length-table f n)) (λ i k. h i (rw e at k) ∙ sym (get_or-table f n i d (rw e at k)))
+
+  -- a loop that stores f i at each i, in a slice that held d: what the slice xs holds at the loop's head
+  abbrev pub Filled : (f : ℕ → A) (i : ℕ) (d xs : List A) → Type 0
+  Filled f i d xs = (xs ≡ table f i ++ drop i d) × (length xs ≡ length d)
+
+  -- before its first turn, at a turn, after its last
+  pub table_none : (f : ℕ → A) (d : List A) → d ≡ table f 0 ++ drop 0 d
+  unfolding table
+  table_none f d = refl
+
+  pub table-store : (f : ℕ → A) (i : ℕ) (d : List A) → i < length d → set (table f i ++ drop i d) i (f i) ≡ table f (i + 1) ++ drop (i + 1) d
+  unfolding table
+  table-store f i d h =
+      rw (add-one i, drop-cons d i (f i) h)
+      (set_at (table f i) (get_or d i (f i)) (drop (suc i) d) (f i) i (length-table f i) ∙ sym (append_snoc (table f i) (f i) (drop (suc i) d)))
+
+  pub table-turn : (f : ℕ → A) (i : ℕ) (d : List A) {xs : List A} {a : A} → i < length d → Filled f i d xs → a ≡ f i → Filled f (i + 1) d (set xs i a)
+  table-turn f i d {xs} {a} h p q =
+      let t : set xs i a ≡ table f (i + 1) ++ drop (i + 1) d = rw (p.0, q) (table-store f i d h) in
+      (t, length-set xs i a ∙ p.1)
+
+  pub table_done : (f : ℕ → A) (i n : ℕ) (d : List A) → i ≤ n → n ≤ i → length d ≡ n → table f i ++ drop i d ≡ table f n
+  table_done f i n d h k e = rw (drop_of_length-le d {i = i} (omega arith), append-nil (table f i), le_antisymm h k)

@@ -24,6 +24,9 @@ module _ (output : List ℕ → List ℕ) (most : ℕ) (line : List ℕ) (long :
   read-decides buffer n room {before} {after} {end} a file filled =
       subst (λ text. Answered text before after end) (ap output filled ∙ first-decide (length buffer) file room) a
 
+pub answered-most : {text before after : List ℕ} {end : ℕ} → Answered text before after end → end ≤ 105
+answered-most {before = before} a = elim (dec_le 105 (length before)) [ yes h ↦ (a.written h).1 | no h ↦ omega (arith, (a.short (omega arith)).0) ]
+
 -- its bytes, in a buffer that has room for it
 pub answered-bytes : {text before after : List ℕ} {end : ℕ} → Answered text before after end → 105 ≤ length before → take end after ≡ text
 answered-bytes {text} {before} a h =

@@ -1,15 +1,15 @@
 -- What holds of a frame that is not refused; and what the program prints: for other than nine bytes, for a refused frame, and for any other. Assumes nothing.
-use Prim.Native.Nat.{ℕ, ◌*◌, ◌≤◌}
+use Prim.Native.Nat.{ℕ, ◌*◌, ◌≤◌, ◌<◌}
 use mathlib.Core.Path.{◌≡◌, sym, ◌∙◌}
 use mathlib.Core.List.{List}
 use native.Mathlib.Omega.{arith}
-use borrow.Author.Tests.{eq-eqb, ltb-false}
+use borrow.Author.Tests.{eq-eqb, lt-ltb, ltb-false}
 use lib.ListN.{length}
 use Rattle.bayer.specs.declared.frame.Frame.{Frame}
 use Rattle.bayer.specs.Condition.{size_cases, layout_cases, frame_cases, range_cases}
 use Rattle.bayer.specs.declared.refusal.Refusal.{Refusal}
 use Rattle.bayer.specs.Refusal.{number, first_of}
-use Rattle.bayer.proofs.RefusalLaws.{number_positive, off, off-append, on-append}
+use Rattle.bayer.proofs.RefusalLaws.{number_positive, later, off, off-append, on-append}
 use Rattle.bayer.proofs.ConditionLaws.{readings-pass}
 use Rattle.plane_text.specs.Text.{refusal_line}
 use Rattle.plane_text.proofs.LineLaws.{refused-line}
@@ -18,6 +18,11 @@ use Rattle.frame_text.proofs.FrameTextLaws.{number-evenly}
 use Rattle.test_frames.specs.TestFrame.{test_frame}
 use Rattle.test_frames.proofs.FrameLaws.{readings-range}
 use Rattle.test_bytes.specs.TestBytes.{frame_of, readings, large_cases, named_cases, bytes_number, output}
+
+-- the sizes and the layout pass: the number of readings decides
+pub too_large : (f : Frame) → first_of (frame_cases f) ≡ 0 → 4096 < f.width * f.height → first_of (named_cases f) ≡ 8
+unfolding first_of
+too_large f zero h = later (frame_cases f) (large_cases f) zero ∙ rw (lt-ltb 4096 (f.width * f.height) h)
 
 -- its sizes pass, and it has at most 4096 readings
 pub named-fits : (f : Frame) → first_of (named_cases f) ≡ 0 → (first_of (size_cases f.width f.height) ≡ 0) × (f.width * f.height ≤ 4096)

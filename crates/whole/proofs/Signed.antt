@@ -8,17 +8,20 @@
 --     value e              the machine's reading of e is what it means
 -- Assumes nothing.
 use mathlib.Core.Path.{◌≡◌, refl, sym, ◌∙◌, ap, ap₂, subst}
-use mathlib.Core.Bool.{Bool, true, ◌&&◌}
-use Prim.Native.Nat.{ℕ, ◌+◌, ◌*◌, ◌^◌, ◌<◌, ◌≤◌}
-use native.Mathlib.Nat.{lt_of_le_of_lt, le_refl}
+use mathlib.Core.Bool.{Bool, true, false, ◌&&◌}
+use Prim.Native.Nat.{ℕ, suc, ◌+◌, ◌*◌, ◌^◌, ◌<◌, ◌≤◌}
+use native.Mathlib.Nat.{le_trans, lt_of_le_of_lt, le_refl, le_of_eq}
+use native.Mathlib.Omega.{arith}
+use borrow.Author.Tests.{ltb-true}
 use lib.Dec.{T, ltb, ltb→lt}
-use lib.Signed.{mag, mag_shr, shr_z}
-use lib.IntN.{ℤ, pos, nat_abs, ◌+ℤ◌, ◌-ℤ◌, ◌*ℤ◌}
+use lib.Signed.{mag, mag_shr, shr_z, lt_z, non_neg}
+use lib.IntN.{ℤ, pos, negsuc, nat_abs, ◌+ℤ◌, ◌-ℤ◌, ◌*ℤ◌}
 use mir.Syntax.{Width}
-use mir.Val.{SFits, hbits, of_z, to_z}
+use mir.Val.{Fits, SFits, hbits, of_z, to_z}
 use mir.ValLaws.{to_z_pos, to_z-of_z}
 use Rattle.whole.specs.Floor.{floor_div}
 use Rattle.whole.proofs.Tests.{first, second}
+use Rattle.whole.proofs.Pairs.{sub-pos}
 use Rattle.whole.proofs.FloorLaws.{shr-floor}
 use Rattle.whole.proofs.Magnitudes.{add-within, sub_within, mul-within, fits-within, abs-of-fits}
 
@@ -131,6 +134,10 @@ value {w} (bin o a b) t =
     (ap₂ (apply o) (value a (first (ok a) (ok b) s)) (value b (second (ok a) (ok b) s)))
     (fits (bin o a b) t)
 
+-- a value of the narrower type v, of which only its type bounds it, cast to w
+abbrev pub widened : {w : Width} (v : Width) (z : ℤ) → SFits v z → 2 ^ hbits v < 2 ^ hbits w → E w
+widened {w} v z f h = raw (of_z w (to_z v (of_z v z))) z (2 ^ hbits v) (back w (to_z v (of_z v z)) (to_z-of_z v z f) (fits-within z (abs-of-fits z f) h)) (abs-of-fits z f)
+
 made_val : {w : Width} (e : E w) → T (ok e) → made e ≡ val e
 made_val (lit n) t = refl
 made_val (nat n m h) t = refl
@@ -148,6 +155,46 @@ asked {w} e t = subst (SFits w) (sym (made_val e t)) (fits e t)
 pub read_result : (w : Width) (r : ℤ) {z : ℤ} → mag r < 2 ^ hbits w → r ≡ z → to_z w (of_z w r) ≡ z
 read_result w r h e = to_z-of_z w r (record { sfits = h }) ∙ e
 
+-- ---- a test against zero, and casts. `mag z` is n at n and at −(n+1), and a signed value's range is a bound on it
+pub neg_of : (z : ℤ) → lt_z z (pos 0) ≡ true → z ≡ negsuc (mag z)
+neg_of (pos n) e = absurd (no_lt n (ltb-true n 0 e))
+  where
+    no_lt : (n : ℕ) → n < 0 → ⊥
+    no_lt n h = omega arith
+neg_of (negsuc n) e = refl
+
+pub nonneg_of : (z : ℤ) → lt_z z (pos 0) ≡ false → z ≡ pos (mag z)
+nonneg_of (pos n) e = refl
+nonneg_of (negsuc n) e = absurd (subst T e tt)
+
+-- a value of a signed type, where a test of the code said that it is below zero (`neg`), or not (`nonneg`): it, and what the machine reads
+pub is-neg : {w : Width} {z : ℤ} → SFits w z → lt_z (to_z w (of_z w z)) (pos 0) ≡ true → z ≡ negsuc (mag z)
+is-neg {w} {z} f e = neg_of z (ap (λ u. lt_z u (pos 0)) (sym (to_z-of_z w z f)) ∙ e)
+
+pub is-nonneg : {w : Width} {z : ℤ} → SFits w z → lt_z (to_z w (of_z w z)) (pos 0) ≡ false → z ≡ pos (mag z)
+is-nonneg {w} {z} f e = nonneg_of z (ap (λ u. lt_z u (pos 0)) (sym (to_z-of_z w z f)) ∙ e)
+
+pub read-neg : {w : Width} {z : ℤ} → SFits w z → lt_z (to_z w (of_z w z)) (pos 0) ≡ true → to_z w (of_z w z) ≡ negsuc (mag z)
+read-neg {w} {z} f e = to_z-of_z w z f ∙ is-neg f e
+
+pub read-nonneg : {w : Width} {z : ℤ} → SFits w z → lt_z (to_z w (of_z w z)) (pos 0) ≡ false → to_z w (of_z w z) ≡ pos (mag z)
+read-nonneg {w} {z} f e = to_z-of_z w z f ∙ is-nonneg f e
+
+-- what a cast to an unsigned type asks
+pub to-unsigned : {w : Width} {z : ℤ} (n : ℕ) → z ≡ pos n → n < 2 ^ mir.Val.bits w → T (non_neg z) × Fits w (nat_abs z)
+to-unsigned {w} n e h = (subst (λ u. T (non_neg u)) (sym e) tt, subst (λ u. Fits w (nat_abs u)) (sym e) (record { fits = h }))
+
+-- −1 − x takes a negative number to a natural
+pub less-negsuc : (n : ℕ) → negsuc 0 -ℤ negsuc n ≡ pos n
+less-negsuc n = sub-pos (suc n) 1 n (omega arith)
+
+-- the code's −1 − x, where a test said that x is below zero
+pub turned : {w : Width} {z : ℤ} → SFits w z → lt_z (to_z w (of_z w z)) (pos 0) ≡ true → negsuc 0 -ℤ to_z w (of_z w z) ≡ pos (mag z)
+turned {z} f t = ap (λ u. negsuc 0 -ℤ u) (read-neg f t) ∙ less-negsuc (mag z)
+
+pub read-turned : {w : Width} {z : ℤ} → SFits w z → lt_z (to_z w (of_z w z)) (pos 0) ≡ true → to_z w (of_z w (negsuc 0 -ℤ to_z w (of_z w z))) ≡ pos (mag z)
+read-turned {w} {z} f t = back w (negsuc 0 -ℤ to_z w (of_z w z)) (turned f t) (record { sfits = f.sfits })
+
 -- the code's x >> k, with d its power of two
 pub shifted : {w : Width} (e : E w) (d : ℕ) → T (ok e) → to_z w (of_z w (shr_z (to_z w (bits e)) d)) ≡ floor_div (val e) d
 shifted {w} e d t =
@@ -157,3 +204,7 @@ shifted {w} e d t =
 -- cast to a wider type a value fits it
 pub wide-cast : {w : Width} (v : Width) (z : ℤ) → SFits v z → 2 ^ hbits v < 2 ^ hbits w → SFits w (to_z v (of_z v z))
 wide-cast v z f h = rw (to_z-of_z v z f) (fits-within z (abs-of-fits z f) h)
+
+-- what the machine reads of an expression is within its bound
+pub bounded : {w : Width} (e : E w) → T (ok e) → nat_abs (to_z w (bits e)) ≤ bound e
+bounded e t = le_trans (le_of_eq (ap nat_abs (value e t))) (within e)
