@@ -1,4 +1,5 @@
 ghost use Rattle.std.specs.Prelude.{◌≡◌, false, List, ℕ, ◌*◌, ◌≤◌, length, take};
+ghost use Rattle.std.proofs.Common.{le_trans, lit≤};
 ghost use Rattle.plane_text.specs.Written.{Answered};
 ghost use Rattle.frame_file.specs.FrameFile.{frame_of, malformed, output};
 ghost use Rattle.frame_file.specs.LongFile.{long_line};
@@ -36,7 +37,8 @@ pub struct FrameFile;
 impl Program<ROOM> for FrameFile {
     ghost output = { output };
 
-    ghost long_refused = { long_line };
+    // ROOM is 8203 or more.
+    ghost long_refused = { λ input long. long_line input (le_trans (lit≤ tt) long) };
 
     fn text(bytes: &[u8]) -> Text {
         if is_malformed(bytes) {

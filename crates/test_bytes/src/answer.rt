@@ -1,4 +1,5 @@
 ghost use Rattle.std.specs.Prelude.{◌≡◌, ◌≤◌, List, ℕ, length, take, IfOk, IfErr};
+ghost use Rattle.std.proofs.Common.{le_trans, lit≤};
 ghost use Rattle.bayer.specs.Refusal.{answer_number, first_of, number};
 ghost use Rattle.plane_text.specs.Text.{refusal_line};
 ghost use Rattle.plane_text.specs.Written.{Answered};
@@ -54,7 +55,8 @@ pub struct NamedFrame;
 impl Program<ROOM> for NamedFrame {
     ghost output = { output };
 
-    ghost long_refused = { long_line };
+    // ROOM is 10 or more.
+    ghost long_refused = { λ input long. long_line input (le_trans (lit≤ tt) long) };
 
     fn text(bytes: &[u8]) -> Text {
         if bytes.len() != 9 {
