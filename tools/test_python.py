@@ -21,7 +21,7 @@ import unittest.mock
 import zlib
 
 from stage import ROOT, RULES
-from test_quotes import Quotes, SamePrograms, SameSignatures  # noqa: F401, so that its tests run too
+from test_quotes import Quotes, SamePrograms, SameSignatures, Wraps  # noqa: F401, so that its tests run too
 sys.path.insert(0, os.path.join(ROOT, "python"))
 import reference
 import rokzimp
@@ -844,6 +844,12 @@ class Test(unittest.TestCase):
             subprocess.run([os.path.join(ROOT, "tools", "seed_to_frame.py"), "0", "8", "8", "0", out + ".frame"], check=True)
             with open(out + ".frame", "rb") as file:
                 self.assertEqual(file.read()[:12].hex(), "0100000085000800080003c6")
+
+    def test_archive(self):
+        """What the archive for C asks of the program that it is linked into."""
+        library = os.path.join(ROOT, "target", "lib", "librokzimp.a")
+        asked = subprocess.run(["nm", "-u", library], capture_output=True, check=True).stdout.decode()
+        self.assertEqual({"memset"}, set(re.findall(r"^ +U (\w+)$", asked, re.MULTILINE)))
 
     def test_files_refused(self):
         flat = struct.pack(">BIHHB64H", 1, 133, 8, 8, 0, *[100] * 64)

@@ -1,9 +1,11 @@
 #!/usr/bin/env python3
 """Tests of what stands in two places: what docs/PROVED.md quotes is in the files that it names, the programs that run again on another
-input are the same program, and the functions that C calls have the parameters of include/rokzimp.h, in its order. Needs no library.
+input are the same program, and the functions that C calls have the parameters of include/rokzimp.h, in its order; and that arithmetic
+wraps only where docs/PROVED.md says so. Needs no library.
 tools/test_python.py runs it too.
 
     tools/test_quotes.py"""
+import glob
 import os
 import re
 import unittest
@@ -38,6 +40,16 @@ class SamePrograms(unittest.TestCase):
             for crate in again:
                 self.assertEqual(self.code(program), self.code(crate), crate)
         self.assertNotEqual(self.code("planes"), self.code("test_planes"))
+
+
+class Wraps(unittest.TestCase):
+    def test_one_place(self):
+        """No contract sees that a product or a sum wraps where its value is what is promised."""
+        paths = glob.glob(os.path.join(ROOT, "crates", "*", "src", "**", "*.rt"), recursive=True)
+        self.assertGreater(len(paths), 100)
+        wrapping = re.compile(r"\b(?:wrapping_|overflowing_|Wrapping\b)")
+        found = [os.path.relpath(path, ROOT) for path in paths for _ in wrapping.findall(text(path))]
+        self.assertEqual([os.path.join("crates", "cases", "src", "numbers.rt")], found)
 
 
 # what C writes for the types of parameters and results, and for names of parameters
